@@ -1,0 +1,160 @@
+-- Laws of little-endian bytes, for any width.
+use Prim.Native.Nat.{ℕ, zero, suc, _+_, _-_, _*_, _/_, _%_, _^_, _<_, _≤_, zero-le}
+use mathlib.Core.Path.{_≡_, refl, sym, ap, subst, _∙_}
+use mathlib.Core.List.{List, [], _∷_, _++_}
+use native.Mathlib.Nat.{pow-suc, add-suc, suc-add, add-zero, le-of-eq, one-le-pow}
+use native.Mathlib.Omega.{arith}
+use lib.Dec.{T, leb, lit<}
+use borrow.Author.Tests.{le-ltb, leb-true}
+use mathlib.Core.Bool.{Bool, true, false}
+use lib.IntN.{ℤ, pos, negsuc, natAbs}
+use lib.Signed.{nonNeg, ltZ}
+use mir.Syntax.{w64}
+use mir.Val.{toZ, ofZ, SFits}
+use mir.ValLaws.{toZ-pos, toZ-ofZ}
+use lib.ListN.{length, getD, set, take, drop, length-drop, take-append-drop}
+use lib.Seq.{sets, drop-cons, drop-set-lt, take-set-le, drop-drop, drop-append-le, take-append-le, drop-append-add, take-all, length-take-le, getD-set-other, set-comm, getD-drop}
+use Rattle.codec.specs.Bytes.{number, bytes, numberAt}
+
+pub length-bytes : (w x : ℕ) → length (bytes w x) ≡ w
+unfolding bytes
+length-bytes zero x = refl
+length-bytes (suc w) x = ap suc (length-bytes w (x / 256))
+
+-- reading back what was written
+pub number-bytes : (w x : ℕ) → x < 256 ^ w → number (bytes w x) ≡ x
+unfolding number bytes
+number-bytes zero x h = omega arith
+number-bytes (suc w) x h =
+    let g : x < 256 ^ w * 256 = rw pow-suc at h in
+    omega (arith, number-bytes w (x / 256) (omega arith))
+
+-- a field is its first byte and the field after it
+pub numberAt-cons : (n a : ℕ) (s : List ℕ) → a < length s → numberAt (suc n) s a ≡ getD s a 0 + 256 * numberAt n s (suc a)
+unfolding number numberAt
+numberAt-cons n a s h = rw (drop-cons s a 0)
+
+-- a field of a part is a field of the whole
+pub numberAt-drop : (w a k : ℕ) (s : List ℕ) → numberAt w (drop a s) k ≡ numberAt w s (a + k)
+unfolding numberAt
+numberAt-drop w a k s = rw drop-drop
+
+pub numberAt-left : (w k : ℕ) (a b : List ℕ) → leb (k + w) (length a) ≡ true → numberAt w (a ++ b) k ≡ numberAt w a k
+unfolding numberAt
+numberAt-left w k a b e =
+    let h = leb-true (k + w) (length a) e in
+    ap number (ap (take w) (drop-append-le k a b (omega arith)) ∙ take-append-le w (drop k a) b (rw length-drop (omega arith)))
+
+pub numberAt-right : (w k : ℕ) (a b : List ℕ) → leb (length a) k ≡ true → numberAt w (a ++ b) k ≡ numberAt w b (k - length a)
+unfolding numberAt
+numberAt-right w k a b e =
+    let h = leb-true (length a) k e in
+    let p : k ≡ length a + (k - length a) = omega arith in
+    ap (λ (n : ℕ). number (take w (drop n (a ++ b)))) p ∙ ap (λ (l : List ℕ). number (take w l)) (drop-append-add a b (k - length a))
+
+pub numberAt-take : (w k n : ℕ) (s : List ℕ) → leb (k + w) n ≡ true → leb n (length s) ≡ true → numberAt w (take n s) k ≡ numberAt w s k
+numberAt-take w k n s e h =
+    sym (numberAt-left w k (take n s) (drop n s) (rw (length-take-le n s (leb-true n (length s) h)) e)) ∙ ap (λ (l : List ℕ). numberAt w l k) (take-append-drop n s)
+
+pub numberAt-bytes : (w x : ℕ) → x < 256 ^ w → numberAt w (bytes w x) 0 ≡ x
+unfolding numberAt
+numberAt-bytes w x h = ap number (take-all w (bytes w x) (le-of-eq (length-bytes w x))) ∙ number-bytes w x h
+
+-- what a slice of bytes is known to hold
+abbrev pub AreBytes : List ℕ → Type 0
+AreBytes s = (i : ℕ) → getD s i 0 < 256
+
+pub drop-bytes : (n : ℕ) (s : List ℕ) → AreBytes s → AreBytes (drop n s)
+drop-bytes n s h i = rw getD-drop (h (n + i))
+
+number-lt : (n : ℕ) (s : List ℕ) → AreBytes s → number (take n s) < 256 ^ n
+unfolding number
+number-lt zero s h = lit< tt
+number-lt (suc n) [] h = one-le-pow (suc n) 256 (lit< tt)
+number-lt (suc n) (b ∷ bs) h = rw pow-suc (omega (arith, h 0, number-lt n bs (λ i. h (suc i))))
+
+pub numberAt-lt : (n a : ℕ) (s : List ℕ) → AreBytes s → numberAt n s a < 256 ^ n
+unfolding numberAt
+numberAt-lt n a s h = number-lt n (drop a s) (drop-bytes a s h)
+
+bytes-number : (w : ℕ) (s : List ℕ) → w ≤ length s → AreBytes s → bytes w (number (take w s)) ≡ take w s
+unfolding number bytes
+bytes-number zero s l h = refl
+bytes-number (suc w) [] l h = absurd (omega arith)
+bytes-number (suc w) (b ∷ bs) l h =
+    let v = number (take w bs) in
+    let q : (b + 256 * v) / 256 ≡ v = omega (arith, h 0) in
+    let r : (b + 256 * v) % 256 ≡ b = omega (arith, h 0) in
+    rw (q, r) (ap (λ (t : List ℕ). b ∷ t) (bytes-number w bs (omega arith) (λ i. h (suc i))))
+
+-- writing back what was read
+pub bytes-numberAt : (w a : ℕ) (s : List ℕ) → a + w ≤ length s → AreBytes s → bytes w (numberAt w s a) ≡ take w (drop a s)
+unfolding numberAt
+bytes-numberAt w a s l h = bytes-number w (drop a s) (rw length-drop (omega arith)) (drop-bytes a s h)
+
+-- a run of stores after another
+pub sets-append : (s xs ys : List ℕ) (i : ℕ) → sets (sets s i xs) (i + length xs) ys ≡ sets s i (xs ++ ys)
+sets-append s [] ys i = rw add-zero
+sets-append s (x ∷ xs) ys i = rw (add-suc, ← suc-add) (sets-append (set s i x) xs ys (suc i))
+
+-- and what is known of it
+pub sets-then : (s : List ℕ) {l l′ : List ℕ} (i n : ℕ) (xs ys : List ℕ) → l ≡ sets s i xs → length xs ≡ n → l′ ≡ sets l (i + n) ys → l′ ≡ sets s i (xs ++ ys)
+sets-then s i n xs ys e h e′ = rw (e′, e, ← h) (sets-append s xs ys i)
+
+-- what lies past a run of stores, and before it, is as it was
+pub drop-sets : (s xs : List ℕ) (i k : ℕ) → i + length xs ≤ k → drop k (sets s i xs) ≡ drop k s
+drop-sets s [] i k h = refl
+drop-sets s (x ∷ xs) i k h = drop-sets (set s i x) xs (suc i) k (omega arith) ∙ drop-set-lt k s i x (omega arith)
+
+pub take-sets : (s xs : List ℕ) (i k : ℕ) → k ≤ i → take k (sets s i xs) ≡ take k s
+take-sets s [] i k h = refl
+take-sets s (x ∷ xs) i k h = take-sets (set s i x) xs (suc i) k (omega arith) ∙ take-set-le k s i x h
+
+pub getD-sets : (s xs : List ℕ) (i k d : ℕ) → k < i → getD (sets s i xs) k d ≡ getD s k d
+getD-sets s [] i k d h = refl
+getD-sets s (x ∷ xs) i k d h = getD-sets (set s i x) xs (suc i) k d (omega arith) ∙ getD-set-other s i k x d (omega arith)
+
+-- a store before a run of stores may come first
+pub set-sets : (s xs : List ℕ) (i k x : ℕ) → k < i → set (sets s i xs) k x ≡ sets (set s k x) i xs
+set-sets s [] i k x h = refl
+set-sets s (y ∷ xs) i k x h =
+    set-sets (set s i y) xs (suc i) k x (omega arith) ∙ ap (λ (l : List ℕ). sets l (suc i) xs) (set-comm s i k y x (omega arith))
+
+-- the later run of two neighbours may be stored first
+pub sets-swap : (s xs ys : List ℕ) (i n : ℕ) → length xs ≡ n → sets (sets s (i + n) ys) i xs ≡ sets s i (xs ++ ys)
+sets-swap s [] ys i n e = rw (← e, add-zero)
+sets-swap s (x ∷ xs) ys i n e =
+    let q : i + n ≡ suc i + length xs = omega arith in
+    rw q (ap (λ (l : List ℕ). sets l (suc i) xs) (set-sets s ys (suc i + length xs) i x (omega arith)) ∙ sets-swap (set s i x) xs ys (suc i) (length xs) refl)
+
+-- one more of the elements from j on, moved up by d, the last ones first
+pub move-more : (s : List ℕ) (j e d : ℕ) → j < e → e ≤ length s
+    → set (sets s (suc j + d) (take (e - suc j) (drop (suc j) s))) (j + d) (getD (sets s (suc j + d) (take (e - suc j) (drop (suc j) s))) j 0)
+    ≡ sets s (j + d) (take (e - j) (drop j s))
+move-more s j e d h fits =
+    let X : List ℕ = take (e - suc j) (drop (suc j) s) in
+    let n : e - j ≡ suc (e - suc j) = omega arith in
+    let p : suc j + d ≡ suc (j + d) = omega arith in
+    rw (n, drop-cons s j 0 (omega arith), getD-sets s X (suc j + d) j 0 (omega arith), set-sets s X (suc j + d) (j + d) (getD s j 0) (omega arith), p)
+
+-- ---- two's complement: the upper half of the bits are the negative numbers
+
+pub low-half : (n : ℕ) → n < 2 ^ 63 → T (nonNeg (toZ w64 n)) × (natAbs (toZ w64 n) ≡ n)
+low-half n h = rw (toZ-pos w64 n h) (tt, refl)
+
+abbrev Sign : Bool → ℤ → Type 0
+Sign true z = (2 ^ 63 ≤ ofZ w64 z) × (ofZ w64 z < 2 ^ 64)
+Sign false z = ofZ w64 z < 2 ^ 63
+
+sign-bits : (z : ℤ) → SFits w64 z → Sign (ltZ z (pos 0)) z
+sign-bits (pos n) f = rw (le-ltb n 0 zero-le) (f .sfits)
+sign-bits (negsuc n) f = omega arith
+
+-- what a test of the sign says of the bits
+pub sign-known : (z : ℤ) → SFits w64 z → (b : Bool) → ltZ (toZ w64 (ofZ w64 z)) (pos 0) ≡ b → Sign b z
+sign-known z f b e = subst (λ (t : Bool). Sign t z) (rw (toZ-ofZ w64 z f) at e) (sign-bits z f)
+
+-- the bits of a negative number, turned over, are in the lower half
+pub turned : (z : ℤ) → SFits w64 z → ltZ (toZ w64 (ofZ w64 z)) (pos 0) ≡ true
+    → T (nonNeg (toZ w64 (2 ^ 64 - 1 - ofZ w64 z))) × (natAbs (toZ w64 (2 ^ 64 - 1 - ofZ w64 z)) ≡ 2 ^ 64 - 1 - ofZ w64 z)
+turned z f e = let h = sign-known z f true e in low-half (2 ^ 64 - 1 - ofZ w64 z) (omega arith)

@@ -1,0 +1,99 @@
+// Little-endian numbers at a place of a byte slice.
+ghost use mathlib.Core.Path.{_≡_};
+ghost use Prim.Native.Nat.{_+_, _-_, _≤_, _<_, _^_};
+ghost use lib.ListN.{length, take, drop};
+ghost use lib.Seq.{sets};
+ghost use mir.Syntax.{w64};
+ghost use mir.Val.{toZ, ofZ};
+ghost use Rattle.codec.specs.Bytes.{bytes, numberAt};
+
+// The number in the w bytes from at on.
+pub fn read(s: &[u8], at: usize, w: usize) -> u64
+    requires { ⌜ (w ≤ 8) × (at + w ≤ length (now s)) ⌝ }
+    ensures { λ r. ⌜ (r ≡ numberAt w (now (s .entry)) at) × (r < 256 ^ w) ⌝ }
+{
+    let mut x: u64 = 0;
+    let mut k = w;
+    while 0 < k {
+        k -= 1;
+        x = x * 256 + (s[at + k] as u64);
+    }
+    x
+}
+
+// The w bytes of x are put in place from at on.
+pub fn write(s: &mut [u8], at: usize, w: usize, x: u64)
+    requires { ⌜ at + w ≤ length (now s) ⌝ }
+    ensures { λ r. ⌜ now (s .exit) ≡ sets (now (s .entry)) at (bytes w x) ⌝ }
+{
+    let mut y = x;
+    let mut k = 0;
+    while k < w {
+        s[at + k] = (y % 256) as u8;
+        y = y / 256;
+        k += 1;
+    }
+}
+
+pub fn u32_at(s: &[u8], at: usize) -> u32
+    requires { ⌜ at + 4 ≤ length (now s) ⌝ }
+    ensures { λ r. ⌜ r ≡ numberAt 4 (now (s .entry)) at ⌝ }
+{
+    read(s, at, 4) as u32
+}
+
+pub fn u64_at(s: &[u8], at: usize) -> u64
+    requires { ⌜ at + 8 ≤ length (now s) ⌝ }
+    ensures { λ r. ⌜ r ≡ numberAt 8 (now (s .entry)) at ⌝ }
+{
+    read(s, at, 8)
+}
+
+pub fn i64_at(s: &[u8], at: usize) -> i64
+    requires { ⌜ at + 8 ≤ length (now s) ⌝ }
+    ensures { λ r. ⌜ r ≡ toZ w64 (numberAt 8 (now (s .entry)) at) ⌝ }
+{
+    let x = read(s, at, 8);
+    if x < 9223372036854775808 {
+        x as i64
+    } else {
+        !((18446744073709551615 - x) as i64)
+    }
+}
+
+pub fn put_u32(s: &mut [u8], at: usize, x: u32)
+    requires { ⌜ at + 4 ≤ length (now s) ⌝ }
+    ensures { λ r. ⌜ now (s .exit) ≡ sets (now (s .entry)) at (bytes 4 x) ⌝ }
+{
+    write(s, at, 4, x as u64)
+}
+
+pub fn put_u64(s: &mut [u8], at: usize, x: u64)
+    requires { ⌜ at + 8 ≤ length (now s) ⌝ }
+    ensures { λ r. ⌜ now (s .exit) ≡ sets (now (s .entry)) at (bytes 8 x) ⌝ }
+{
+    write(s, at, 8, x)
+}
+
+pub fn put_i64(s: &mut [u8], at: usize, x: i64)
+    requires { ⌜ at + 8 ≤ length (now s) ⌝ }
+    ensures { λ r. ⌜ now (s .exit) ≡ sets (now (s .entry)) at (bytes 8 (ofZ w64 x)) ⌝ }
+{
+    if x < 0 {
+        write(s, at, 8, 18446744073709551615 - (!x as u64))
+    } else {
+        write(s, at, 8, x as u64)
+    }
+}
+
+// The bytes from a to e move up by d.
+pub fn shift(s: &mut [u8], a: usize, e: usize, d: usize)
+    requires { ⌜ (a ≤ e) × (e + d ≤ length (now s)) ⌝ }
+    ensures { λ _. ⌜ now (s .exit) ≡ sets (now (s .entry)) (a + d) (take (e - a) (drop a (now (s .entry)))) ⌝ }
+{
+    let mut j = e;
+    while a < j {
+        j -= 1;
+        s[j + d] = s[j];
+    }
+}

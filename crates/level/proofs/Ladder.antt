@@ -1,0 +1,144 @@
+-- What a number gives to a level and to the levels below it, by the sizes of what is left. Assumes nothing.
+use mathlib.Core.Path.{_≡_, refl, sym, ap, ap₂, _∙_}
+use mathlib.Core.Bool.{Bool, true, false, not}
+use Prim.Native.Nat.{ℕ, zero, suc, _-_, _*_, _^_, _≤_, _<_, zero-le}
+use native.Mathlib.Nat.{mul-sub, mul-comm, mul-assoc, mul-pos, zero-mul, add-mul, sub-zero, suc-sub-suc, mul-lt-mul-of-pos-right, mul-le-mul-right}
+use native.Mathlib.Decide.{decLt}
+use native.Mathlib.Omega.{arith}
+use lib.Dec.{ltb, leb·zero, leb·suc-zero, leb·suc-suc}
+use lib.IntN.{ℤ, pos, negℤ, negℤ-negℤ}
+use lib.Pow.{pow-pos, pow-add}
+use lib.Ieee.Nearest.{closest, closest-same}
+use borrow.Author.Tests.{lt-ltb, le-ltb}
+use Rattle.level.specs.Double.{signed, negative, field, significand, size, value}
+use Rattle.level.specs.Level.{unit, nearestTo, left, given, below, top, contribution}
+use Rattle.level.specs.Cut.{shiftOf, apart, restOf, overOf, turn}
+use Rattle.level.proofs.Near.{closest-small, closest-whole}
+use Rattle.level.proofs.Signs.{sub-signed}
+use Rattle.level.proofs.Top.{top-place}
+use Rattle.level.proofs.Given.{unit-pos, unit-suc, nearest-neg, left-neg, given-here, given-lower}
+
+-- ---- scaling
+sub-scale : (a b s : ℕ) → (a - b) * s ≡ a * s - b * s
+sub-scale a b s = mul-comm (a - b) s ∙ mul-sub s a b ∙ ap₂ _-_ (mul-comm s a) (mul-comm s b)
+
+apart-scale : (x y s : ℕ) → apart (x * s) (y * s) ≡ apart x y * s
+apart-scale x y s = rw (add-mul, sub-scale x y s, sub-scale y x s)
+
+ltb-scale : (a b s : ℕ) → 0 < s → ltb (a * s) (b * s) ≡ ltb a b
+ltb-scale a b s h =
+    elim (decLt a b) [
+      | yes l ↦ lt-ltb (a * s) (b * s) (mul-lt-mul-of-pos-right l h) ∙ sym (lt-ltb a b l)
+      | no k ↦ let m : b ≤ a = omega arith in le-ltb (a * s) (b * s) (mul-le-mul-right s m) ∙ sym (le-ltb a b m)
+    ]
+
+-- n / u and x / v are the same fraction, so their nearest numbers are one, and what is left is the same fraction again
+module _ (n u x v : ℕ) (u-pos : 0 < u) (v-pos : 0 < v) (same : n * v ≡ x * u) where
+  same-units : closest n u ≡ closest x v
+  same-units = closest-same n u x v u-pos v-pos same
+
+  whole : closest n u * u * v ≡ closest x v * v * u
+  whole = rw same-units (omega arith)
+
+  same-rest : restOf n u * v ≡ restOf x v * u
+  same-rest = sym (apart-scale n (closest n u * u) v) ∙ ap₂ apart same whole ∙ apart-scale x (closest x v * v) u
+
+  same-over : overOf n u ≡ overOf x v
+  same-over = sym (ltb-scale n (closest n u * u) v v-pos) ∙ ap₂ ltb same whole ∙ ltb-scale x (closest x v * v) u u-pos
+
+-- x / u with both sides multiplied
+module _ (x u s : ℕ) (u-pos : 0 < u) (s-pos : 0 < s) where
+  scaled-up : x * s * u ≡ x * (u * s)
+  scaled-up = omega arith
+
+  pub units-scale : closest (x * s) (u * s) ≡ closest x u
+  units-scale = same-units (x * s) (u * s) x u (mul-pos u-pos s-pos) u-pos scaled-up
+
+  pub over-scale : overOf (x * s) (u * s) ≡ overOf x u
+  over-scale = same-over (x * s) (u * s) x u (mul-pos u-pos s-pos) u-pos scaled-up
+
+  pub rest-scale : restOf (x * s) (u * s) ≡ restOf x u * s
+  rest-scale =
+      ap (λ (c : ℕ). apart (x * s) (c * (u * s))) units-scale ∙ ap (apart (x * s)) (sym (mul-assoc (closest x u) u s))
+      ∙ apart-scale x (closest x u * u) s
+
+-- ---- by sign and size
+neg-signed : (g : Bool) (n : ℕ) → negℤ (signed g n) ≡ signed (not g) n
+neg-signed true n = negℤ-negℤ (pos n)
+neg-signed false n = refl
+
+nearest-signed : (g : Bool) (n u : ℕ) → 0 < u → nearestTo (signed g n) u ≡ signed g (closest n u)
+nearest-signed true n u h = nearest-neg (pos n) u h
+nearest-signed false n u h = refl
+
+kept : (b : Bool) → b ≡ turn false b
+kept true = refl
+kept false = refl
+
+turned : (b : Bool) → not b ≡ turn true b
+turned true = refl
+turned false = refl
+
+left-signed : (g : Bool) (n j : ℕ) → left (signed g n) j ≡ signed (turn g (overOf n (unit j))) (restOf n (unit j))
+left-signed false n j =
+    sub-signed n (closest n (unit j) * unit j) ∙ ap (λ (b : Bool). signed b (restOf n (unit j))) (kept (overOf n (unit j)))
+left-signed true n j =
+    left-neg (pos n) j ∙ ap negℤ (sub-signed n (closest n (unit j) * unit j)) ∙ neg-signed (overOf n (unit j)) (restOf n (unit j))
+    ∙ ap (λ (b : Bool). signed b (restOf n (unit j))) (turned (overOf n (unit j)))
+
+-- ---- the levels from t down
+-- what z gives k levels below t, where it starts
+unfoldable pub rung : ℕ → ℤ → ℕ → ℤ
+rung t z zero = nearestTo z (unit t)
+rung zero z (suc k) = pos 0
+rung (suc s) z (suc k) = rung s (left z (suc s)) k
+
+pub rung-below : (t : ℕ) (z : ℤ) (k : ℕ) → rung t z k ≡ below (given (suc t) z) t k
+unfolding rung
+rung-below t z zero = rw (leb·zero t, sub-zero t) (sym (given-here t z))
+rung-below zero z (suc k) = rw (leb·suc-zero k)
+rung-below (suc s) z (suc k) =
+    rw (leb·suc-suc k s, suc-sub-suc s k, given-lower (suc s) z (s - k) (omega arith)) (rung-below s (left z (suc s)) k)
+
+-- the same from a size x that is counted in units v throughout: each level down counts 2^40 times as much
+unfoldable pub scaled : ℕ → Bool → ℕ → ℕ → ℤ
+scaled v g x zero = signed g (closest x v)
+scaled v g x (suc k) = scaled v (turn g (overOf x v)) (restOf x v * 2 ^ 40) k
+
+signed-zero : (g : Bool) → signed g 0 ≡ pos 0
+signed-zero true = refl
+signed-zero false = refl
+
+-- a whole number of units leaves nothing
+pub rest-whole : (q v : ℕ) → 0 < v → restOf (q * v) v ≡ 0
+rest-whole q v h = rw (closest-whole q v h) (omega arith)
+
+scaled-zero : (v : ℕ) → 0 < v → (g : Bool) (x k : ℕ) → x ≡ 0 → scaled v g x k ≡ pos 0
+unfolding scaled
+scaled-zero v h g x zero e = ap (signed g) (ap (λ (y : ℕ). closest y v) e ∙ closest-small 0 v h zero-le) ∙ signed-zero g
+scaled-zero v h g x (suc k) e =
+    let r : restOf x v ≡ 0 = ap (λ (y : ℕ). restOf y v) (e ∙ sym (zero-mul v)) ∙ rest-whole 0 v h in
+    scaled-zero v h (turn g (overOf x v)) (restOf x v * 2 ^ 40) k (omega arith)
+
+rung-scaled : (v : ℕ) → 0 < v → (t : ℕ) (g : Bool) (n x k : ℕ) → n * v ≡ x * unit t → rung t (signed g n) k ≡ scaled v g x k
+unfolding rung scaled
+rung-scaled v h t g n x zero e = nearest-signed g n (unit t) (unit-pos t) ∙ ap (signed g) (same-units n (unit t) x v (unit-pos t) h e)
+rung-scaled v h zero g n x (suc k) e =
+    let r : restOf x v ≡ 0 = ap (λ (y : ℕ). restOf y v) (omega arith) ∙ rest-whole n v h in
+    sym (scaled-zero v h (turn g (overOf x v)) (restOf x v * 2 ^ 40) k (omega arith))
+rung-scaled v h (suc s) g n x (suc k) e =
+    let u = unit (suc s) in
+    let p = unit-pos (suc s) in
+    ap (λ (z : ℤ). rung s z k) (left-signed g n (suc s))
+    ∙ ap (λ (b : Bool). rung s (signed (turn g b) (restOf n u)) k) (same-over n u x v p h e)
+    ∙ rung-scaled v h s (turn g (overOf x v)) (restOf n u) (restOf x v * 2 ^ 40) k
+    (same-rest n u x v p h e ∙ ap (λ (w : ℕ). restOf x v * w) (unit-suc s) ∙ sym (mul-assoc (restOf x v) (2 ^ 40) (unit s)))
+
+-- a row's contributions from its top down, from its significand
+pub row-scaled : (b k : ℕ) → below (contribution b) (top b) k ≡ scaled (2 ^ shiftOf b) (negative b) (significand b) k
+unfolding contribution
+row-scaled b k =
+    sym (rung-below (top b) (value b) k)
+    ∙ rung-scaled (2 ^ shiftOf b) (pow-pos (shiftOf b)) (top b) (negative b) (size b) (significand b) k
+    (mul-assoc (significand b) (2 ^ (field b - 1)) (2 ^ shiftOf b)
+    ∙ ap (λ (w : ℕ). significand b * w) (sym (pow-add 2 (field b - 1) (shiftOf b)) ∙ ap (λ (e : ℕ). 2 ^ e) (omega (arith, top-place b))))

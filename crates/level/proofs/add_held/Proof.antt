@@ -1,0 +1,70 @@
+-- `add_held` adds two kept totals: the residues' sum gives the new residue, and its carry goes to the carries. Assumes nothing.
+use mathlib.Core.Path.{_≡_, sym, ap, ap₂, _∙_}
+use Prim.Native.Nat.{ℕ, _+_, _/_, _^_, _<_}
+use native.Mathlib.Omega.{arith}
+use borrow.Author.Needs.{needs}
+use mir.Syntax.{w64}
+use mir.Val.{toZ, ofZ}
+use mir.ValLaws.{toZ-ofZ}
+use lib.IntN.{ℤ, pos, natAbs, _+ℤ_}
+use Rattle.level.proofs.Signs.{natAbs-sum, back}
+use Rattle.level.proofs.Carry.{held-sum}
+use Rattle.level.proofs.add_held.Statement.{statement}
+use Rattle.level.proofs.add_held.Tie as tie
+
+-- the sum of the two carries, and of that and the residues' carry
+module _ (x y p o : ℤ) (n : ℕ) (hx : natAbs x < 2 ^ 61) (hy : natAbs y < 2 ^ 61) (ep : p ≡ toZ w64 (ofZ w64 x) +ℤ toZ w64 (ofZ w64 y)) (eo : o ≡ pos n) (hn : n < 2 ^ 60) where
+  first : p ≡ x +ℤ y
+  first = ep ∙ ap₂ _+ℤ_ (back x (omega arith)) (back y (omega arith))
+
+  first-small : natAbs p < 2 ^ 62
+  first-small = omega (arith, natAbs-sum x y, ap natAbs first)
+
+  room : natAbs (toZ w64 (ofZ w64 p)) + natAbs (toZ w64 (ofZ w64 o)) < 2 ^ 63
+  room = let k : natAbs o < 2 ^ 60 = omega (arith, ap natAbs eo) in rw (back p (omega (arith, first-small)), back o (omega arith)) (omega (arith, first-small))
+
+  second : toZ w64 (ofZ w64 p) +ℤ toZ w64 (ofZ w64 o) ≡ x +ℤ y +ℤ pos n
+  second = let k : natAbs o < 2 ^ 60 = omega (arith, ap natAbs eo) in ap₂ _+ℤ_ (back p (omega (arith, first-small)) ∙ first) (back o (omega arith) ∙ eo)
+
+add-sum : tie.Need-add-sum
+add-sum c = search needs
+
+with-sign-requires : tie.Need-with-sign-requires
+with-sign-requires c κs = search needs
+
+last-digits-requires : tie.Need-last-digits-requires
+last-digits-requires c κs = search needs
+
+plus-requires : tie.Need-plus-requires
+plus-requires c κs =
+    let s = c .before .before .before .before .before .before in
+    rw (back (s .args .a .carry) (omega arith), back (s .args .b .carry) (omega arith)) (omega arith)
+
+plus-requires-2 : tie.Need-plus-requires-2
+plus-requires-2 c κs =
+    let s = c .before .before .before .before .before .before .before in
+    room (s .args .a .carry) (s .args .b .carry) (c .plus .result) (c .before .before .before .before .with-sign .result) ((s .args .a .residue + s .args .b .residue) / 2 ^ 50)
+    (s .pre .2) (s .pre .3) (c .plus .ensures) (c .before .before .before .before .with-sign .ensures) (omega arith)
+
+returns : tie.Need-returns
+returns c =
+    let s = c .before .before .before .before .before .before .before .before in
+    let p = c .before .plus in
+    let o = c .before .before .before .before .before .with-sign in
+    let residue = c .before .before .before .before .last-digits .ensures in
+    let carry =
+    toZ-ofZ w64 (c .plus2 .result) (record { sfits = c .plus2 .ok }) ∙ c .plus2 .ensures
+    ∙ second (s .args .a .carry) (s .args .b .carry) (p .result) (o .result) ((s .args .a .residue + s .args .b .residue) / 2 ^ 50)
+    (s .pre .2) (s .pre .3) (p .ensures) (o .ensures) (omega arith) in
+    (λ i. record { residue = residue i; carry = carry i }) ∙ sym (held-sum (s .args .a) (s .args .b))
+
+pub add-held-spec : {M : Type 1} → statement M
+add-held-spec =
+    tie.close
+    (tie.spec
+    add-sum
+    with-sign-requires
+    last-digits-requires
+    plus-requires
+    plus-requires-2
+    returns)

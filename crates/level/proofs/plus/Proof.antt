@@ -1,0 +1,23 @@
+-- `plus` adds: the sizes together leave room. Assumes nothing.
+use native.Mathlib.Nat.{lt-of-le-of-lt}
+use mir.Syntax.{w64}
+use mir.ValLaws.{toZ-ofZ}
+use lib.IntN.{_+ℤ_}
+use Rattle.level.proofs.Signs.{natAbs-sum, natAbs-fits, back}
+use Rattle.level.proofs.plus.Statement.{statement}
+use Rattle.level.proofs.plus.Tie as tie
+
+add-result : tie.Need-add-result
+add-result c =
+    let x = c .args .x in
+    let y = c .args .y in
+    rw (toZ-ofZ w64 x (c .fits .x), toZ-ofZ w64 y (c .fits .y)) (natAbs-fits (x +ℤ y) (lt-of-le-of-lt (natAbs-sum x y) (c .pre)))
+
+returns : tie.Need-returns
+returns c =
+    let x = c .args .x in
+    let y = c .args .y in
+    rw (toZ-ofZ w64 x (c .fits .x), toZ-ofZ w64 y (c .fits .y)) (back (x +ℤ y) (lt-of-le-of-lt (natAbs-sum x y) (c .pre)))
+
+pub plus-spec : {M : Type 1} → statement M
+plus-spec = tie.close (tie.spec add-result returns)

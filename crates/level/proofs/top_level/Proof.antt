@@ -1,0 +1,30 @@
+-- `top_level` is the top: the formula of the exponent field, or the test of a subnormal's fraction. Assumes nothing.
+use mathlib.Core.Path.{sym, ap, _∙_}
+use Prim.Native.Nat.{ℕ, _+_, _/_}
+use native.Mathlib.Omega.{arith}
+use Rattle.level.proofs.Top.{top-normal, top-small, top-subnormal}
+use borrow.Author.Needs.{needs}
+use Rattle.level.proofs.top_level.Statement.{statement}
+use Rattle.level.proofs.top_level.Tie as tie
+
+exponent-requires : tie.Need-exponent-requires
+exponent-requires c κs = search needs
+
+add-result : tie.Need-add-result
+add-result c = search needs
+
+returns : tie.Need-returns
+returns c = ap (λ (f : ℕ). (f + 52) / 40) (c .before .exponent .ensures) ∙ sym (top-normal (c .before .before .args .bits) (λ e. c .if1 .taken (c .before .exponent .ensures ∙ e)))
+
+low-bits-requires : tie.Need-low-bits-requires
+low-bits-requires c κs = search needs
+
+returns-2 : tie.Need-returns-2
+returns-2 c = sym (top-small (c .before .before .before .before .args .bits) (omega arith) (omega arith))
+
+returns-3 : tie.Need-returns-3
+returns-3 c = sym (top-subnormal (c .before .before .before .before .args .bits) (omega arith) (omega arith))
+
+pub top-level-spec : {M : Type 1} → statement M
+top-level-spec =
+    tie.close (tie.spec exponent-requires add-result returns low-bits-requires returns-2 returns-3)

@@ -1,0 +1,28 @@
+-- A size cut at a unit, by its number of units, what is left, and whether the units came to more than the size.
+use Prim.Native.Nat.{ℕ, _+_, _-_, _*_}
+use mathlib.Core.Bool.{Bool, true, false, not}
+use lib.Dec.{ltb}
+use Rattle.level.specs.Double.{field}
+use Rattle.level.specs.Level.{top}
+use lib.Ieee.Nearest.{closest}
+
+-- how many binary digits of a row's significand stand below its top's unit
+abbrev pub shiftOf : ℕ → ℕ
+shiftOf b = 40 * top b - (field b - 1)
+
+-- how far apart two sizes are
+abbrev pub apart : ℕ → ℕ → ℕ
+apart x y = x - y + (y - x)
+
+-- the size of what is left of x after its whole number of units u
+abbrev pub restOf : ℕ → ℕ → ℕ
+restOf x u = apart x (closest x u * u)
+
+-- whether that is negative
+abbrev pub overOf : ℕ → ℕ → Bool
+overOf x u = ltb x (closest x u * u)
+
+-- a sign, turned or kept
+abbrev pub turn : Bool → Bool → Bool
+turn g true = not g
+turn g false = g

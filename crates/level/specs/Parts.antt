@@ -1,0 +1,13 @@
+-- A row's top, and what the row gives to it and to the two levels below.
+use Prim.Native.Nat.{ℕ}
+use Rattle.level.specs.Level.{top, contribution, below}
+use Rattle.level.specs.declared.Parts.{Parts}
+
+abbrev pub partsOf : ℕ → Parts
+partsOf b =
+    record {
+      top = top b;
+      high = below (contribution b) (top b) 0;
+      middle = below (contribution b) (top b) 1;
+      low = below (contribution b) (top b) 2;
+    }

@@ -1,0 +1,230 @@
+// Level arithmetic.
+ghost use mathlib.Core.Path.{_≡_};
+ghost use Prim.Native.Nat.{_+_, _-_, _*_, _%_, _^_, _<_, _≤_};
+ghost use lib.IntN.{natAbs, _+ℤ_};
+ghost use lib.Ieee.Nearest.{closest};
+ghost use Rattle.level.specs.Double.{field, fraction, significand, negative, signed};
+ghost use Rattle.level.specs.Level.{top};
+ghost use Rattle.level.specs.Cut.{shiftOf, restOf, overOf, turn};
+ghost use Rattle.level.specs.Carry.{heldOf, totalOf};
+ghost use Rattle.level.specs.Parts.{partsOf};
+
+// The exponent field of a double's bits.
+fn exponent(bits: u64) -> u64
+    ensures { λ r. ⌜ r ≡ field bits ⌝ }
+{
+    (bits >> 52) & 0x7FF
+}
+
+// The fraction of a double's bits.
+fn low_bits(bits: u64) -> u64
+    ensures { λ r. ⌜ r ≡ fraction bits ⌝ }
+{
+    bits & 0xF_FFFF_FFFF_FFFF
+}
+
+// The significand, with the hidden digit of a normal double.
+fn digits(bits: u64) -> u64
+    ensures { λ r. ⌜ r ≡ significand bits ⌝ }
+{
+    if exponent(bits) == 0 {
+        low_bits(bits)
+    } else {
+        low_bits(bits) | (1 << 52)
+    }
+}
+
+fn is_negative(bits: u64) -> bool
+    ensures { λ r. ⌜ r ≡ negative bits ⌝ }
+{
+    bits >> 63 == 1
+}
+
+// The row's top: by the exponent field, or by the fraction's size where that is 0.
+fn top_level(bits: u64) -> u64
+    ensures { λ r. ⌜ r ≡ top bits ⌝ }
+{
+    let e = exponent(bits);
+    if e != 0 {
+        return (e + 52) / 40;
+    }
+    if low_bits(bits) < (1 << 39) { 0 } else { 1 }
+}
+
+// The power of two that the significand's last digit counts.
+fn scale(bits: u64) -> u64
+    ensures { λ r. ⌜ r ≡ field bits - 1 ⌝ }
+{
+    let e = exponent(bits);
+    if e == 0 { 0 } else { e - 1 }
+}
+
+// How many binary digits of the significand stand below the top's unit.
+fn shift(bits: u64) -> u64
+    ensures { λ r. ⌜ r ≡ shiftOf bits ⌝ }
+{
+    40 * top_level(bits) - scale(bits)
+}
+
+fn power(d: u64) -> u64
+    requires { ⌜ d < 64 ⌝ }
+    ensures { λ r. ⌜ r ≡ 2 ^ d ⌝ }
+{
+    1 << d
+}
+
+// The last d binary digits of x.
+fn last_digits(x: u64, d: u64) -> u64
+    requires { ⌜ d < 64 ⌝ }
+    ensures { λ r. ⌜ r ≡ x % 2 ^ d ⌝ }
+{
+    x & (power(d) - 1)
+}
+
+// The whole number nearest to x / 2^d, an exact half going to the even number.
+fn nearest(x: u64, d: u64) -> u64
+    requires { ⌜ (x < 2 ^ 53) × (d < 54) ⌝ }
+    ensures { λ r. ⌜ r ≡ closest x (2 ^ d) ⌝ }
+{
+    let unit = power(d);
+    let whole = x >> d;
+    let twice = last_digits(x, d) * 2;
+    if twice < unit {
+        whole
+    } else if twice == unit {
+        whole + (whole & 1)
+    } else {
+        whole + 1
+    }
+}
+
+// A size cut at the unit 2^d: its number of units, what is left, and whether the units came to more than the size.
+struct Cut {
+    units: u64,
+    rest: u64,
+    over: bool,
+}
+
+fn cut_at(x: u64, d: u64) -> Cut
+    requires { ⌜ (x < 2 ^ 53) × (d < 54) ⌝ }
+    ensures { λ r. ⌜ (r .units ≡ closest x (2 ^ d)) × (r .rest ≡ restOf x (2 ^ d)) × (r .over ≡ overOf x (2 ^ d)) ⌝ }
+{
+    let units = nearest(x, d);
+    let whole = units << d;
+    if x < whole {
+        Cut {
+            units,
+            rest: whole - x,
+            over: true,
+        }
+    } else {
+        Cut {
+            units,
+            rest: x - whole,
+            over: false,
+        }
+    }
+}
+
+// What stands one and two levels below a cut, of a rest in units of 2^d.
+struct Lower {
+    middle: u64,
+    over: bool,
+    low: u64,
+}
+
+fn lower_two(rest: u64, d: u64) -> Lower
+    requires { ⌜ (rest * 2 ≤ 2 ^ d) × (d < 54) ⌝ }
+    ensures { λ r. ⌜ (r .middle ≡ closest (rest * 2 ^ 40) (2 ^ d)) × (r .over ≡ overOf (rest * 2 ^ 40) (2 ^ d)) × (r .low ≡ closest (restOf (rest * 2 ^ 40) (2 ^ d) * 2 ^ 40) (2 ^ d)) ⌝ }
+{
+    if d <= 40 {
+        return Lower {
+            middle: rest << (40 - d),
+            over: false,
+            low: 0,
+        };
+    }
+    let c = cut_at(rest, d - 40);
+    Lower {
+        middle: c.units,
+        over: c.over,
+        low: c.rest << (80 - d),
+    }
+}
+
+// A sign, turned or kept.
+fn turned(sign: bool, over: bool) -> bool
+    ensures { λ r. ⌜ r ≡ turn sign over ⌝ }
+{
+    if over { !sign } else { sign }
+}
+
+// A number of a sign and a size.
+fn with_sign(sign: bool, size: u64) -> i64
+    requires { ⌜ size < 2 ^ 63 ⌝ }
+    ensures { λ r. ⌜ r ≡ signed sign size ⌝ }
+{
+    let x = size as i64;
+    if sign { -x } else { x }
+}
+
+// A row's top, and what it gives to its top and to the two levels below; a level below 0 receives 0.
+pub struct Parts {
+    pub top: u32,
+    pub high: i64,
+    pub middle: i64,
+    pub low: i64,
+}
+
+pub fn parts_of(bits: u64) -> Parts
+    ensures { λ r. ⌜ r ≡ partsOf bits ⌝ }
+{
+    let d = shift(bits);
+    let sign = is_negative(bits);
+    let first = cut_at(digits(bits), d);
+    let next = lower_two(first.rest, d);
+    let sign1 = turned(sign, first.over);
+    let sign2 = turned(sign1, next.over);
+    Parts {
+        top: top_level(bits) as u32,
+        high: with_sign(sign, first.units),
+        middle: with_sign(sign1, next.middle),
+        low: with_sign(sign2, next.low),
+    }
+}
+
+// A total as it is kept: carry × 2^50 + residue.
+pub struct Held {
+    pub residue: u64,
+    pub carry: i64,
+}
+
+pub fn hold(total: i64) -> Held
+    ensures { λ r. ⌜ r ≡ heldOf total ⌝ }
+{
+    Held {
+        residue: (total & 0x3_FFFF_FFFF_FFFF) as u64,
+        carry: total >> 50,
+    }
+}
+
+// A sum of two signed numbers whose sizes leave room for it.
+fn plus(x: i64, y: i64) -> i64
+    requires { ⌜ natAbs x + natAbs y < 2 ^ 63 ⌝ }
+    ensures { λ r. ⌜ r ≡ x +ℤ y ⌝ }
+{
+    x + y
+}
+
+// Two totals added.
+fn add_held(a: Held, b: Held) -> Held
+    requires { ⌜ (a .residue < 2 ^ 50) × (b .residue < 2 ^ 50) × (natAbs (a .carry) < 2 ^ 61) × (natAbs (b .carry) < 2 ^ 61) ⌝ }
+    ensures { λ r. ⌜ r ≡ heldOf (totalOf a +ℤ totalOf b) ⌝ }
+{
+    let sum = a.residue + b.residue;
+    let over = with_sign(false, sum >> 50);
+    Held {
+        residue: last_digits(sum, 50),
+        carry: plus(plus(a.carry, b.carry), over),
+    }
+}

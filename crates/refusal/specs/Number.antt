@@ -1,0 +1,21 @@
+-- The number that document 01 gives each refusal.
+use Prim.Native.Nat.{ℕ}
+use Rattle.refusal.specs.declared.Refusal.{Refusal}
+use Rattle.refusal.specs.declared.Refusal.the-variants.{FileTooLong, FileTooShort, MarkMissing, KeyDistance, ValueDistance, ColumnsOverlap, TableNotSound, WorkTooShort, ColumnLengths, RowNotFinite, TooManyRows, TooManyKeys, SectionAbsent, SumTooLarge, FigureTooLarge}
+
+abbrev pub numberOf : Refusal → ℕ
+numberOf FileTooLong = 1
+numberOf FileTooShort = 2
+numberOf MarkMissing = 3
+numberOf KeyDistance = 4
+numberOf ValueDistance = 5
+numberOf ColumnsOverlap = 6
+numberOf TableNotSound = 7
+numberOf WorkTooShort = 8
+numberOf ColumnLengths = 9
+numberOf RowNotFinite = 10
+numberOf TooManyRows = 11
+numberOf TooManyKeys = 12
+numberOf SectionAbsent = 13
+numberOf SumTooLarge = 14
+numberOf FigureTooLarge = 15
