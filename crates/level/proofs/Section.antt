@@ -9,7 +9,7 @@ use lib.Dec.{leb}
 use lib.ListN.{length}
 use lib.IntN.{ℤ, pos, negℤ, natAbs, _+ℤ_, _-ℤ_, _*ℤ_, +ℤ-comm, zero-*ℤ, negℤ-+ℤ, +ℤ-negℤ-cancel}
 use Rattle.level.specs.Double.{value}
-use Rattle.level.specs.Level.{unit, top, contribution, below, kept, topOf, total, sumOf}
+use Rattle.level.specs.Level.{unit, top, contribution, below, kept, topOf, total, exactSum}
 use Rattle.level.proofs.Signs.{mul-sum, sum-pairs, natAbs-sum}
 use Rattle.level.proofs.Top.{contribution-bound}
 use Rattle.level.proofs.Kept.{leftAfter, after-half, kept-row}
@@ -52,16 +52,16 @@ row-near b t n h =
 apart-sum : (a b k l : ℤ) → (a +ℤ b) -ℤ (k +ℤ l) ≡ (a -ℤ k) +ℤ (b -ℤ l)
 apart-sum a b k l = ap (λ (z : ℤ). a +ℤ b +ℤ z) (negℤ-+ℤ k l) ∙ sum-pairs a b (negℤ k) (negℤ l)
 
-pub section-near : (bs : List ℕ) (t n : ℕ) → topOf bs ≤ t → natAbs (sumOf bs -ℤ kept (total bs) t (suc n)) * 2 ≤ length bs * unit (t - n)
-unfolding topOf total sumOf
+pub section-near : (bs : List ℕ) (t n : ℕ) → topOf bs ≤ t → natAbs (exactSum bs -ℤ kept (total bs) t (suc n)) * 2 ≤ length bs * unit (t - n)
+unfolding topOf total exactSum
 section-near [] t n h = let e : kept (total []) t (suc n) ≡ pos 0 = kept-none t (suc n) in rw e zero-le
 section-near (b ∷ bs) t n h =
     let v = kept (contribution b) t (suc n) in
     let w = kept (total bs) t (suc n) in
     let one = row-near b t n (le-trans (le-max-left (top b) (topOf bs)) h) in
     let rest = section-near bs t n (le-trans (le-max-right (top b) (topOf bs)) h) in
-    let sizes = natAbs-sum (value b -ℤ v) (sumOf bs -ℤ w) in
-    rw (kept-sum (contribution b) (total bs) t (suc n), apart-sum (value b) (sumOf bs) v w) (omega arith)
+    let sizes = natAbs-sum (value b -ℤ v) (exactSum bs -ℤ w) in
+    rw (kept-sum (contribution b) (total bs) t (suc n), apart-sum (value b) (exactSum bs) v w) (omega arith)
 
 -- no total exceeds 2^39 for each row
 pub total-bound : (bs : List ℕ) (j : ℕ) → natAbs (total bs j) ≤ length bs * 2 ^ 39

@@ -5,17 +5,17 @@ use Prim.Native.Nat.{ℕ, _^_}
 use lib.IntN.{ℤ, pos, negsuc, negℤ}
 use Rattle.level.specs.Level.{top, contribution}
 use Rattle.level.specs.Carry.{heldOf}
-use Rattle.level.specs.Parts.{partsOf}
-use Rattle.level.specs.declared.Parts.{Parts}
+use Rattle.level.specs.Contributions.{contributionsOf}
+use Rattle.level.specs.declared.Contributions.{Contributions}
 
 rows : List ℕ
 rows =
     0x3FF0000000000000 ∷ 0xBFF0000000000000 ∷ 0x403F800000000000 ∷ 0x4040000000000000 ∷ 0x4058000000000000 ∷ 1 ∷ 0x7FFFFFFFFF ∷ 0x8000000000 ∷ []
 
-abbrev part : ℕ → ℤ → ℤ → Parts
+abbrev part : ℕ → ℤ → ℤ → Contributions
 part t h m = record { top = t; high = h; middle = m; low = pos 0 }
 
-figures : List Parts
+figures : List Contributions
 figures =
     part 26 (pos (2 ^ 34)) (pos 0)
     ∷ part 26 (negℤ (pos (2 ^ 34))) (pos 0)
@@ -27,7 +27,7 @@ figures =
     ∷ part 1 (pos 0) (pos (2 ^ 39))
     ∷ []
 
-bench : map partsOf rows ≡ figures
+bench : map contributionsOf rows ≡ figures
 unfolding rows figures top contribution
 bench = refl
 

@@ -62,6 +62,6 @@ total [] j = pos 0
 total (b ∷ bs) j = contribution b j +ℤ total bs j
 
 -- the rows' exact sum
-unfoldable pub sumOf : List ℕ → ℤ
-sumOf [] = pos 0
-sumOf (b ∷ bs) = value b +ℤ sumOf bs
+unfoldable pub exactSum : List ℕ → ℤ
+exactSum [] = pos 0
+exactSum (b ∷ bs) = value b +ℤ exactSum bs

@@ -7,34 +7,34 @@ ghost use Rattle.level.specs.Double.{field, fraction, significand, negat
 ghost use Rattle.level.specs.Level.{top};
 ghost use Rattle.level.specs.Cut.{shiftOf, restOf, overOf, turn};
 ghost use Rattle.level.specs.Carry.{heldOf, totalOf};
-ghost use Rattle.level.specs.Parts.{partsOf};
+ghost use Rattle.level.specs.Contributions.{contributionsOf};
 
 // The exponent field of a double's bits.
-fn exponent(bits: u64) -> u64
+pub fn exponent_field(bits: u64) -> u64
     ensures { λ r. ⌜ r ≡ field bits ⌝ }
 {
     (bits >> 52) & 0x7FF
 }
 
 // The fraction of a double's bits.
-fn low_bits(bits: u64) -> u64
+pub fn fraction_field(bits: u64) -> u64
     ensures { λ r. ⌜ r ≡ fraction bits ⌝ }
 {
     bits & 0xF_FFFF_FFFF_FFFF
 }
 
 // The significand, with the hidden digit of a normal double.
-fn digits(bits: u64) -> u64
+pub fn digits(bits: u64) -> u64
     ensures { λ r. ⌜ r ≡ significand bits ⌝ }
 {
-    if exponent(bits) == 0 {
-        low_bits(bits)
+    if exponent_field(bits) == 0 {
+        fraction_field(bits)
     } else {
-        low_bits(bits) | (1 << 52)
+        fraction_field(bits) | (1 << 52)
     }
 }
 
-fn is_negative(bits: u64) -> bool
+pub fn is_negative(bits: u64) -> bool
     ensures { λ r. ⌜ r ≡ negative bits ⌝ }
 {
     bits >> 63 == 1
@@ -44,18 +44,18 @@ fn is_negative(bits: u64) -> bool
 fn top_level(bits: u64) -> u64
     ensures { λ r. ⌜ r ≡ top bits ⌝ }
 {
-    let e = exponent(bits);
+    let e = exponent_field(bits);
     if e != 0 {
         return (e + 52) / 40;
     }
-    if low_bits(bits) < (1 << 39) { 0 } else { 1 }
+    if fraction_field(bits) < (1 << 39) { 0 } else { 1 }
 }
 
 // The power of two that the significand's last digit counts.
 fn scale(bits: u64) -> u64
     ensures { λ r. ⌜ r ≡ field bits - 1 ⌝ }
 {
-    let e = exponent(bits);
+    let e = exponent_field(bits);
     if e == 0 { 0 } else { e - 1 }
 }
 
@@ -66,7 +66,7 @@ fn shift(bits: u64) -> u64
     40 * top_level(bits) - scale(bits)
 }
 
-fn power(d: u64) -> u64
+pub fn power(d: u64) -> u64
     requires { ⌜ d < 64 ⌝ }
     ensures { λ r. ⌜ r ≡ 2 ^ d ⌝ }
 {
@@ -74,7 +74,7 @@ fn power(d: u64) -> u64
 }
 
 // The last d binary digits of x.
-fn last_digits(x: u64, d: u64) -> u64
+pub fn last_digits(x: u64, d: u64) -> u64
     requires { ⌜ d < 64 ⌝ }
     ensures { λ r. ⌜ r ≡ x % 2 ^ d ⌝ }
 {
@@ -160,7 +160,7 @@ fn turned(sign: bool, over: bool) -> bool
 }
 
 // A number of a sign and a size.
-fn with_sign(sign: bool, size: u64) -> i64
+pub fn with_sign(sign: bool, size: u64) -> i64
     requires { ⌜ size < 2 ^ 63 ⌝ }
     ensures { λ r. ⌜ r ≡ signed sign size ⌝ }
 {
@@ -169,15 +169,15 @@ fn with_sign(sign: bool, size: u64) -> i64
 }
 
 // A row's top, and what it gives to its top and to the two levels below; a level below 0 receives 0.
-pub struct Parts {
+pub struct Contributions {
     pub top: u32,
     pub high: i64,
     pub middle: i64,
     pub low: i64,
 }
 
-pub fn parts_of(bits: u64) -> Parts
-    ensures { λ r. ⌜ r ≡ partsOf bits ⌝ }
+pub fn contributions_of(bits: u64) -> Contributions
+    ensures { λ r. ⌜ r ≡ contributionsOf bits ⌝ }
 {
     let d = shift(bits);
     let sign = is_negative(bits);
@@ -185,7 +185,7 @@ pub fn parts_of(bits: u64) -> Parts
     let next = lower_two(first.rest, d);
     let sign1 = turned(sign, first.over);
     let sign2 = turned(sign1, next.over);
-    Parts {
+    Contributions {
         top: top_level(bits) as u32,
         high: with_sign(sign, first.units),
         middle: with_sign(sign1, next.middle),
@@ -209,7 +209,7 @@ pub fn hold(total: i64) -> Held
 }
 
 // A sum of two signed numbers whose sizes leave room for it.
-fn plus(x: i64, y: i64) -> i64
+pub fn plus(x: i64, y: i64) -> i64
     requires { ⌜ natAbs x + natAbs y < 2 ^ 63 ⌝ }
     ensures { λ r. ⌜ r ≡ x +ℤ y ⌝ }
 {
@@ -217,7 +217,7 @@ fn plus(x: i64, y: i64) -> i64
 }
 
 // Two totals added.
-fn add_held(a: Held, b: Held) -> Held
+pub fn add_held(a: Held, b: Held) -> Held
     requires { ⌜ (a .residue < 2 ^ 50) × (b .residue < 2 ^ 50) × (natAbs (a .carry) < 2 ^ 61) × (natAbs (b .carry) < 2 ^ 61) ⌝ }
     ensures { λ r. ⌜ r ≡ heldOf (totalOf a +ℤ totalOf b) ⌝ }
 {

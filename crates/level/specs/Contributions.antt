@@ -1,10 +1,10 @@
 -- A row's top, and what the row gives to it and to the two levels below.
 use Prim.Native.Nat.{ℕ}
 use Rattle.level.specs.Level.{top, contribution, below}
-use Rattle.level.specs.declared.Parts.{Parts}
+use Rattle.level.specs.declared.Contributions.{Contributions}
 
-abbrev pub partsOf : ℕ → Parts
-partsOf b =
+abbrev pub contributionsOf : ℕ → Contributions
+contributionsOf b =
     record {
       top = top b;
       high = below (contribution b) (top b) 0;

@@ -1,4 +1,4 @@
--- `parts_of` gives a row's contributions from its top down: the significand goes down the levels in units of 2^d. Assumes nothing.
+-- `contributions_of` gives a row's contributions from its top down: the significand goes down the levels in units of 2^d. Assumes nothing.
 use mathlib.Core.Path.{_≡_, sym, _∙_}
 use mathlib.Core.Bool.{Bool}
 use Prim.Native.Nat.{ℕ, _*_, _^_, _≤_, _<_}
@@ -19,8 +19,8 @@ use Rattle.level.proofs.Double.{significand-lt}
 use Rattle.level.proofs.Given.{rest-half}
 use Rattle.level.proofs.Top.{top-le, top-place}
 use Rattle.level.proofs.Ladder.{scaled, row-scaled}
-use Rattle.level.proofs.parts_of.Statement.{statement}
-use Rattle.level.proofs.parts_of.Tie as tie
+use Rattle.level.proofs.contributions_of.Statement.{statement}
+use Rattle.level.proofs.contributions_of.Tie as tie
 
 shift-requires : tie.Need-shift-requires
 shift-requires c κs = search needs
@@ -105,8 +105,8 @@ returns c =
     let low = back _ (c .with-sign3 .ok) ∙ c .with-sign3 .ensures ∙ t .2 in
     λ i. record { top = c .before .before .before .top-level .ensures i; high = high i; middle = middle i; low = low i }
 
-pub parts-of-spec : {M : Type 1} → statement M
-parts-of-spec =
+pub contributions-of-spec : {M : Type 1} → statement M
+contributions-of-spec =
     tie.close
     (tie.spec
     shift-requires
