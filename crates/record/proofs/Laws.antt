@@ -1,0 +1,147 @@
+-- Laws of records in bytes.
+use Prim.Native.Nat.{ℕ, suc, _+_, _-_, _*_, _^_, _<_, _≤_}
+use mathlib.Core.Path.{_≡_, refl, sym, ap, ap₂, _∙_}
+use mathlib.Core.List.{List, _∷_, _++_, append-assoc}
+use mathlib.Core.Bool.{true}
+use native.Mathlib.Omega.{arith}
+use native.Mathlib.Nat.{add-zero, add-assoc}
+use borrow.Author.Tests.{le-leb}
+use lib.Dec.{leb}
+use lib.ListN.{length, getD, set, take, drop, length-append, length-drop, length-map, take-append-drop}
+use lib.Seq.{sets, sets-eq, length-sets, length-take-le, take-add, drop-drop}
+use native.Mathlib.Numerals.{add-one}
+use lib.IntN.{ℤ}
+use mir.Syntax.{w64}
+use mir.Val.{toZ, ofZ, SFits}
+use mir.ValLaws.{toZ-ofZ, ofZ-toZ, ofZ-fits}
+use Rattle.codec.specs.Bytes.{bytes, numberAt}
+use Rattle.codec.proofs.Laws.{length-bytes, sets-then, numberAt-take, numberAt-drop, numberAt-left, numberAt-right, numberAt-bytes, drop-sets, sets-swap, AreBytes, drop-bytes, numberAt-lt, bytes-numberAt}
+use Rattle.codec.proofs.Cells.{getD-cells, cells-sets, cells-append, cells-take, map-cells, length-cells, cells-insert, image-cells}
+use Rattle.codec.specs.Cells.{cells, image}
+use Rattle.level.specs.declared.Held.{Held}
+use Rattle.record.specs.declared.Record.{Record}
+use Rattle.record.specs.Layout.{heldAt, recordAt, encodeHeld, encode, decode, records}
+use Rattle.record.specs.Keys.{keys}
+
+pub length-encode : (r : Record) → length (encode r) ≡ 64
+unfolding encode
+length-encode r = simp (length-append, length-bytes)
+
+-- the seven stores of a record are one
+pub stored : (s : List ℕ) (at : ℕ) (r : Record) {a b c d e f g : List ℕ}
+    → a ≡ sets s at (bytes 4 (r .key)) → b ≡ sets a (at + 4) (bytes 4 (r .count)) → c ≡ sets b (at + 8) (bytes 4 (r .top)) → d ≡ sets c (at + 12) (bytes 4 (r .zero))
+    → e ≡ sets d (at + 16) (encodeHeld (r .high)) → f ≡ sets e (at + 32) (encodeHeld (r .middle)) → g ≡ sets f (at + 48) (encodeHeld (r .low))
+    → g ≡ sets s at (encode r)
+unfolding encode
+stored s at r p q u v x y z =
+    let k1 = bytes 4 (r .key) in
+    let k2 = k1 ++ bytes 4 (r .count) in
+    let k3 = k2 ++ bytes 4 (r .top) in
+    let k4 = k3 ++ bytes 4 (r .zero) in
+    let k5 = k4 ++ encodeHeld (r .high) in
+    let k6 = k5 ++ encodeHeld (r .middle) in
+    let q2 = sets-then s at 4 k1 (bytes 4 (r .count)) p (length-bytes 4 (r .key)) q in
+    let q3 = sets-then s at 8 k2 (bytes 4 (r .top)) q2 (simp (length-append, length-bytes)) u in
+    let q4 = sets-then s at 12 k3 (bytes 4 (r .zero)) q3 (simp (length-append, length-bytes)) v in
+    let q5 = sets-then s at 16 k4 (encodeHeld (r .high)) q4 (simp (length-append, length-bytes)) x in
+    let q6 = sets-then s at 32 k5 (encodeHeld (r .middle)) q5 (simp (length-append, length-bytes)) y in
+    sets-then s at 48 k6 (encodeHeld (r .low)) q6 (simp (length-append, length-bytes)) z
+
+-- a record of a part is a record of the whole
+pub decode-part : (s : List ℕ) (a : ℕ) → a + 64 ≤ length s → decode (take 64 (drop a s)) ≡ recordAt s a
+unfolding decode
+decode-part s a h =
+    let k : leb 64 (length (drop a s)) ≡ true = le-leb 64 (length (drop a s)) (rw length-drop (omega arith)) in
+    simp (numberAt-take, numberAt-drop, add-zero, add-assoc)
+
+-- every field is in the range of its type
+pub record HeldInRange (t : Held) : Type 0 where
+  pub residue : t .residue < 2 ^ 64
+  pub carry : SFits w64 (t .carry)
+
+pub record InRange (r : Record) : Type 0 where
+  pub key : r .key < 2 ^ 32
+  pub count : r .count < 2 ^ 32
+  pub top : r .top < 2 ^ 32
+  pub zero : r .zero < 2 ^ 32
+  pub high : HeldInRange (r .high)
+  pub middle : HeldInRange (r .middle)
+  pub low : HeldInRange (r .low)
+
+carry-back : (z : ℤ) → SFits w64 z → toZ w64 (numberAt 8 (bytes 8 (ofZ w64 z)) 0) ≡ z
+carry-back z f = ap (toZ w64) (numberAt-bytes 8 (ofZ w64 z) (ofZ-fits w64 z f .fits)) ∙ toZ-ofZ w64 z f
+
+-- reading back what was put
+pub decode-encode : (r : Record) → InRange r → decode (encode r) ≡ r
+unfolding decode encode
+decode-encode r h =
+    simp (
+      numberAt-left,
+      numberAt-right,
+      length-append,
+      length-bytes,
+      numberAt-bytes 4 (r .key) (h .key),
+      numberAt-bytes 4 (r .count) (h .count),
+      numberAt-bytes 4 (r .top) (h .top),
+      numberAt-bytes 4 (r .zero) (h .zero),
+      numberAt-bytes 8 (r .high .residue) (h .high .residue),
+      carry-back (r .high .carry) (h .high .carry),
+      numberAt-bytes 8 (r .middle .residue) (h .middle .residue),
+      carry-back (r .middle .carry) (h .middle .carry),
+      numberAt-bytes 8 (r .low .residue) (h .low .residue),
+      carry-back (r .low .carry) (h .low .carry),
+    )
+
+module _ (s : List ℕ) (g : ℕ) (fits : g * 64 ≤ length s) where
+  pub getD-records : (i : ℕ) (d : Record) → i < g → getD (records s g) i d ≡ recordAt s (i * 64)
+  getD-records i d h = getD-cells 64 decode i g s d h ∙ decode-part s (i * 64) (omega arith)
+
+  pub records-put : (i : ℕ) (r : Record) → i < g → decode (encode r) ≡ r → records (sets s (i * 64) (encode r)) g ≡ set (records s g) i r
+  records-put i r h e = cells-sets 64 decode i g s (encode r) h (length-encode r) fits ∙ ap (set (records s g) i) e
+
+  -- bytes past the used ones do not count, and are not touched
+  pub records-append : (b : List ℕ) → records (s ++ b) g ≡ records s g
+  records-append b = cells-append 64 decode g s b fits
+
+  pub records-take : records (take (g * 64) s) g ≡ records s g
+  records-take = cells-take 64 decode g s fits
+
+  pub rest-put : (i : ℕ) (r : Record) → i < g → drop (g * 64) (sets s (i * 64) (encode r)) ≡ drop (g * 64) s
+  rest-put i r h = drop-sets s (encode r) (i * 64) (g * 64) (omega (arith, length-encode r))
+
+  pub getD-keys : (i : ℕ) → i < g → getD (keys (records s g)) i 0 ≡ numberAt 4 s (i * 64)
+  getD-keys i h =
+      ap (λ (l : List ℕ). getD l i 0) (map-cells 64 decode (λ (r : Record). r .key) g s)
+      ∙ getD-cells 64 (λ (b : List ℕ). decode b .key) i g s 0 h
+      ∙ ap (λ (r : Record). r .key) (decode-part s (i * 64) (omega arith))
+
+pub length-keys : (s : List ℕ) (g : ℕ) → length (keys (records s g)) ≡ g
+length-keys s g = length-map (records s g) (λ (r : Record). r .key) ∙ length-cells 64 decode g s
+
+-- ---- the used bytes are determined by the records
+
+module _ (b : List ℕ) (h : AreBytes b) where
+  join : (n m : ℕ) {x y : List ℕ} → x ≡ take n b → y ≡ take m (drop n b) → x ++ y ≡ take (n + m) b
+  join n m p q = ap₂ (λ (u v : List ℕ). u ++ v) p q ∙ sym (take-add n m b)
+
+  carry-bytes : (a : ℕ) → a + 8 ≤ length b → bytes 8 (ofZ w64 (toZ w64 (numberAt 8 b a))) ≡ take 8 (drop a b)
+  carry-bytes a l = ap (bytes 8) (ofZ-toZ w64 (numberAt 8 b a) (record { fits = numberAt-lt 8 a b h })) ∙ bytes-numberAt 8 a b l h
+
+total-bytes : (b : List ℕ) (h : AreBytes b) (a : ℕ) → a + 16 ≤ length b → encodeHeld (heldAt b a) ≡ take 16 (drop a b)
+total-bytes b h a l =
+    join (drop a b) (drop-bytes a b h) 8 8 (bytes-numberAt 8 a b (omega arith) h)
+    (carry-bytes b h (a + 8) (omega arith) ∙ ap (take 8) (sym (drop-drop 8 a b)))
+
+pub encode-decode : (b : List ℕ) → 64 ≤ length b → AreBytes b → encode (decode (take 64 b)) ≡ take 64 b
+unfolding encode
+encode-decode b l h =
+    let f : (a : ℕ) → a + 4 ≤ length b → bytes 4 (numberAt 4 b a) ≡ take 4 (drop a b) = λ a k. bytes-numberAt 4 a b k h in
+    ap encode (decode-part b 0 l)
+    ∙ join b h 48 16 (join b h 32 16 (join b h 16 16 (join b h 12 4 (join b h 8 4 (join b h 4 4
+    (f 0 (omega arith)) (f 4 (omega arith))) (f 8 (omega arith))) (f 12 (omega arith)))
+    (total-bytes b h 16 (omega arith))) (total-bytes b h 32 (omega arith))) (total-bytes b h 48 (omega arith))
+
+-- a table is the image of its records and the bytes after them
+pub table-is : (s : List ℕ) (g : ℕ) → g * 64 ≤ length s → AreBytes s → s ≡ image encode (records s g) ++ drop (g * 64) s
+table-is s g l h =
+    sym (take-append-drop (g * 64) s) ∙ ap (λ (x : List ℕ). x ++ drop (g * 64) s) (sym (image-cells 64 encode decode encode-decode g s l h))

@@ -1,0 +1,4 @@
+-- Laws of records, keys and soundness.
+pub mod Laws
+pub mod Order
+pub mod Sound

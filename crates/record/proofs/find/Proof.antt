@@ -1,0 +1,130 @@
+use Prim.Native.Nat.{ℕ, _+_, _-_, _*_, _/_, _≤_, _<_, zero-le}
+use mathlib.Core.Path.{_≡_, sym, ap, _∙_, subst}
+use mathlib.Core.List.{List}
+use native.Mathlib.Omega.{arith}
+use lib.ListN.{length, getD}
+use lib.Dec.{T}
+use Rattle.codec.specs.Bytes.{numberAt}
+use Rattle.record.specs.Layout.{records}
+use Rattle.record.specs.Keys.{keys, rising, countBelow, place}
+use Rattle.record.specs.declared.Place.the-variants.{At, Gap}
+use Rattle.record.proofs.Laws.{getD-keys, length-keys}
+use Rattle.record.proofs.Order.{below-le, below-lt, below-ge, place-at, place-gap}
+use Rattle.record.proofs.find.Statement.{statement}
+use Rattle.record.proofs.find.Tie as tie
+
+-- what the key at a record says of the place; v is that key as it was read
+module _ (s : List ℕ) (g key : ℕ) (pre : (g * 64 ≤ length s) × T (rising (keys (records s g)))) (i v : ℕ) (e : v ≡ numberAt 4 s (i * 64)) where
+  at : i < g → getD (keys (records s g)) i 0 ≡ v
+  at h = getD-keys s g (pre .0) i h ∙ sym e
+
+  inside : i < g → i < length (keys (records s g))
+  inside h = rw length-keys h
+
+  smaller : i < g → v < key → i < countBelow key (keys (records s g))
+  smaller h l = below-lt key (keys (records s g)) (pre .1) i (inside h) (rw (at h) l)
+
+  larger : i < g → key ≤ v → countBelow key (keys (records s g)) ≤ i
+  larger h l = below-ge key (keys (records s g)) (pre .1) i (inside h) (rw (at h) l)
+
+  found : i < g → i ≡ countBelow key (keys (records s g)) → v ≡ key → At i ≡ place key (keys (records s g))
+  found h b q = place-at key (keys (records s g)) i b (inside h) (at h ∙ q)
+
+  missing : i < g → i ≡ countBelow key (keys (records s g)) → (v ≡ key → ⊥) → Gap i ≡ place key (keys (records s g))
+  missing h b n = place-gap key (keys (records s g)) (pre .1) i b (λ l q. n (sym (at h) ∙ q))
+
+past-all : (s : List ℕ) (g key : ℕ) → T (rising (keys (records s g))) → (i : ℕ) → i ≡ countBelow key (keys (records s g)) → g ≤ i → Gap i ≡ place key (keys (records s g))
+past-all s g key up i b h = place-gap key (keys (records s g)) up i b (λ l q. omega (arith, length-keys s g))
+
+abbrev Inv-loop : tie.InvT-loop
+Inv-loop t g key lo₀ hi₀ lo hi = (lo ≤ countBelow key (keys (records t g))) × (countBelow key (keys (records t g)) ≤ hi) × (hi ≤ g)
+
+abbrev μ-loop : tie.MeasureT-loop
+μ-loop t g key lo₀ hi₀ lo hi = hi - lo
+
+loop-holds : tie.Need-loop-holds Inv-loop μ-loop
+loop-holds c =
+    let a = c .before .args in
+    (zero-le, omega (arith, below-le (a .key) (keys (records (a .t .now) (a .g))), length-keys (a .t .now) (a .g)), omega arith)
+
+sub-mid : tie.Need-sub-mid Inv-loop μ-loop
+sub-mid c = omega arith
+
+add-mid : tie.Need-add-mid Inv-loop μ-loop
+add-mid c = omega arith
+
+mul-u32-at : tie.Need-mul-u32-at Inv-loop μ-loop
+mul-u32-at c = omega arith
+
+u32-at-requires : tie.Need-u32-at-requires Inv-loop μ-loop
+u32-at-requires c κs = omega arith
+
+add-lo : tie.Need-add-lo Inv-loop μ-loop
+add-lo c = omega arith
+
+loop-less : tie.Need-loop-less Inv-loop μ-loop
+loop-less c = omega arith
+
+loop-again : tie.Need-loop-again Inv-loop μ-loop
+loop-again c =
+    let a = c .before .before .before .before .before in
+    let l = c .before .before .before .loop in
+    let m = l .lo + (l .hi - l .lo) / 2 in
+    let u = c .before .u32-at in
+    omega (arith, smaller (a .args .t .now) (a .args .g) (a .args .key) (a .pre) m (u .result) (u .ensures) (omega arith) (c .if1 .taken))
+
+loop-less-2 : tie.Need-loop-less-2 Inv-loop μ-loop
+loop-less-2 c = omega arith
+
+loop-again-2 : tie.Need-loop-again-2 Inv-loop μ-loop
+loop-again-2 c =
+    let a = c .before .before .before .before .before in
+    let l = c .before .before .before .loop in
+    let m = l .lo + (l .hi - l .lo) / 2 in
+    let u = c .before .u32-at in
+    omega (arith, larger (a .args .t .now) (a .args .g) (a .args .key) (a .pre) m (u .result) (u .ensures) (omega arith) (c .if1 .left))
+
+mul-u32-at-2 : tie.Need-mul-u32-at-2 Inv-loop μ-loop
+mul-u32-at-2 c = omega arith
+
+u32-at-requires-2 : tie.Need-u32-at-requires-2 Inv-loop μ-loop
+u32-at-requires-2 c κs = omega arith
+
+returns : tie.Need-returns Inv-loop μ-loop
+returns c =
+    let a = c .before .before .before .before .before .before in
+    let u = c .before .u32-at2 in
+    found (a .args .t .now) (a .args .g) (a .args .key) (a .pre) (c .before .before .before .before .loop .lo) (u .result) (u .ensures) (omega arith) (omega arith) (c .if3 .taken)
+
+returns-2 : tie.Need-returns-2 Inv-loop μ-loop
+returns-2 c =
+    let a = c .before .before .before .before .before .before in
+    let u = c .before .u32-at2 in
+    missing (a .args .t .now) (a .args .g) (a .args .key) (a .pre) (c .before .before .before .before .loop .lo) (u .result) (u .ensures) (omega arith) (omega arith) (c .if3 .left)
+
+returns-3 : tie.Need-returns-3 Inv-loop μ-loop
+returns-3 c =
+    let a = c .before .before .before .before in
+    past-all (a .args .t .now) (a .args .g) (a .args .key) (a .pre .1) (c .before .before .loop .lo) (omega arith) (c .if2 .left)
+
+pub find-spec : {M : Type 1} → statement M
+find-spec =
+    tie.close
+    (tie.spec
+    Inv-loop
+    μ-loop
+    loop-holds
+    sub-mid
+    add-mid
+    mul-u32-at
+    u32-at-requires
+    add-lo
+    loop-less
+    loop-again
+    loop-less-2
+    loop-again-2
+    mul-u32-at-2
+    u32-at-requires-2
+    returns
+    returns-2
+    returns-3)

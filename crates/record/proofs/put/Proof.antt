@@ -1,0 +1,89 @@
+use Prim.Native.Nat.{_*_}
+use Rattle.record.proofs.Laws.{stored, decode-encode, InRange}
+use borrow.Author.Needs.{needs}
+use Rattle.record.proofs.put.Statement.{statement}
+use Rattle.record.proofs.put.Tie as tie
+
+mul-at : tie.Need-mul-at
+mul-at c = search needs
+
+put-u32-requires : tie.Need-put-u32-requires
+put-u32-requires c κs = search needs
+
+add-put-u32 : tie.Need-add-put-u32
+add-put-u32 c = search needs
+
+put-u32-requires-2 : tie.Need-put-u32-requires-2
+put-u32-requires-2 c κs = search needs
+
+add-put-u32-2 : tie.Need-add-put-u32-2
+add-put-u32-2 c = search needs
+
+put-u32-requires-3 : tie.Need-put-u32-requires-3
+put-u32-requires-3 c κs = search needs
+
+add-put-u32-3 : tie.Need-add-put-u32-3
+add-put-u32-3 c = search needs
+
+put-u32-requires-4 : tie.Need-put-u32-requires-4
+put-u32-requires-4 c κs = search needs
+
+add-put-held : tie.Need-add-put-held
+add-put-held c = search needs
+
+put-held-requires : tie.Need-put-held-requires
+put-held-requires c κs = search needs
+
+add-put-held-2 : tie.Need-add-put-held-2
+add-put-held-2 c = search needs
+
+put-held-requires-2 : tie.Need-put-held-requires-2
+put-held-requires-2 c κs = search needs
+
+add-put-held-3 : tie.Need-add-put-held-3
+add-put-held-3 c = search needs
+
+put-held-requires-3 : tie.Need-put-held-requires-3
+put-held-requires-3 c κs = search needs
+
+same-length : tie.Need-same-length
+same-length c = search needs
+
+in-range : (c : tie.Start) → InRange (c .args .r)
+in-range c = search needs
+
+returns : tie.Need-returns
+returns c =
+    let p7 = c .before .before in
+    let p6 = p7 .before .before .before .before in
+    let p5 = p6 .before .before .before .before in
+    let p4 = p5 .before .before .before .before in
+    let p3 = p4 .before .before .before .before in
+    let p2 = p3 .before .before .before .before in
+    let p1 = p2 .before .before .before .before in
+    let a = p1 .before .before .before .args in (
+      stored (a .t .now) (a .i * 64) (a .r) (p1 .put-u32 .ensures) (p2 .put-u322 .ensures) (p3 .put-u323 .ensures) (p4 .put-u324 .ensures)
+          (p5 .put-held .ensures) (p6 .put-held2 .ensures) (p7 .put-held3 .ensures),
+      decode-encode (a .r) (in-range (p1 .before .before .before)),
+    )
+
+pub put-spec : {M : Type 1} → statement M
+put-spec =
+    tie.close
+    (tie.spec
+    mul-at
+    put-u32-requires
+    add-put-u32
+    put-u32-requires-2
+    add-put-u32-2
+    put-u32-requires-3
+    add-put-u32-3
+    put-u32-requires-4
+    add-put-held
+    put-held-requires
+    add-put-held-2
+    put-held-requires-2
+    add-put-held-3
+    put-held-requires-3
+    same-length
+    returns)

@@ -1,0 +1,67 @@
+-- Worked examples, computed from the definitions.
+use Prim.Native.Nat.{ℕ, _^_, _+_, _-_}
+use mathlib.Core.Path.{_≡_, refl}
+use mathlib.Core.Bool.{Bool, true, false}
+use mathlib.Core.List.{List, [], _∷_, _++_}
+use lib.IntN.{ℤ, pos, negsuc}
+use lib.ListN.{length, replicate}
+use Rattle.codec.specs.Bytes.{number, bytes, numberAt}
+use Rattle.codec.specs.Cells.{cells}
+use Rattle.level.specs.declared.Held.{Held}
+use Rattle.record.specs.declared.Record.{Record}
+use Rattle.record.specs.declared.Place.the-variants.{At, Gap}
+use Rattle.record.specs.Layout.{decode, encode, records}
+use Rattle.record.specs.Keys.{keys, rising, countBelow, has, place}
+use Rattle.level.specs.Carry.{totalOf}
+use Rattle.record.specs.Sound.{soundHeld, isZero, soundRecord, soundRecords, sound}
+
+little-endian : bytes 4 0x01020304 ≡ 4 ∷ 3 ∷ 2 ∷ 1 ∷ []
+unfolding bytes
+little-endian = refl
+
+-- B2, row -1 : first residue 1125882726973440, carry -1, top 26
+abbrev nothing : Held
+nothing = record { residue = 0; carry = pos 0 }
+
+abbrev b2 : Record
+b2 = record { key = 7; count = 1; top = 26; zero = 0; high = record { residue = 1125882726973440; carry = negsuc 0 }; middle = nothing; low = nothing }
+
+b2-total : totalOf (b2 .high) ≡ negsuc (2 ^ 34 - 1)
+b2-total = refl
+
+b2-back : decode (encode b2) ≡ b2
+unfolding decode encode bytes numberAt number
+b2-back = refl
+
+b2-sound : soundRecord b2 ≡ true
+unfolding soundRecord soundHeld isZero
+b2-sound = refl
+
+-- two tables of one record and of two
+abbrev one : List ℕ
+one = encode b2 ++ replicate 70 255
+
+one-sound : sound one 1 ≡ true
+unfolding sound soundRecords soundRecord soundHeld isZero rising cells decode encode bytes numberAt number
+one-sound = refl
+
+twice-not : sound (encode b2 ++ encode b2) 2 ≡ false
+unfolding sound soundRecords soundRecord soundHeld isZero rising cells decode encode bytes numberAt number
+twice-not = refl
+
+found : place 7 (keys (records one 1)) ≡ At 0
+unfolding has countBelow cells decode encode bytes numberAt number
+found = refl
+
+gap : place 8 (keys (records one 1)) ≡ Gap 1
+unfolding has countBelow cells decode encode bytes numberAt number
+gap = refl
+
+-- at the bound, and one past it, on either side
+edge : (soundHeld 1 (record { residue = 2 ^ 39; carry = pos 0 }) ≡ true) × (soundHeld 1 (record { residue = 2 ^ 39 + 1; carry = pos 0 }) ≡ false)
+unfolding soundHeld
+edge = (refl, refl)
+
+edge-below : (soundHeld 1 (record { residue = 2 ^ 50 - 2 ^ 39; carry = negsuc 0 }) ≡ true) × (soundHeld 1 (record { residue = 2 ^ 50 - 2 ^ 39 - 1; carry = negsuc 0 }) ≡ false)
+unfolding soundHeld
+edge-below = (refl, refl)

@@ -1,0 +1,205 @@
+// The 64-byte record of a section: read, written, tested and looked up in a lent buffer.
+ghost use mathlib.Core.Path.{_≡_};
+ghost use mathlib.Core.Bool.{_&&_, _||_};
+ghost use Prim.Native.Nat.{_+_, _*_, _^_, _≤_};
+ghost use lib.ListN.{length};
+ghost use lib.Seq.{sets};
+ghost use lib.Dec.{T, leb};
+ghost use Rattle.record.specs.Layout.{heldAt, recordAt, encodeHeld, encode, decode, records};
+ghost use Rattle.record.specs.Keys.{keys, rising, place};
+ghost use Rattle.record.specs.Sound.{soundHeld, isZero, soundRecord, soundRecords, sound};
+use level::Held;
+
+pub struct Record {
+    pub key: u32,
+    pub count: u32,
+    pub top: u32,
+    pub zero: u32,
+    pub high: Held,
+    pub middle: Held,
+    pub low: Held,
+}
+
+fn get_held(t: &[u8], at: usize) -> Held
+    requires { ⌜ at + 16 ≤ length (now t) ⌝ }
+    ensures { λ r. ⌜ r ≡ heldAt (now (t .entry)) at ⌝ }
+{
+    Held {
+        residue: codec::u64_at(t, at),
+        carry: codec::i64_at(t, at + 8),
+    }
+}
+
+// Record i.
+pub fn get(t: &[u8], i: usize) -> Record
+    requires { ⌜ i * 64 + 64 ≤ length (now t) ⌝ }
+    ensures { λ r. ⌜ r ≡ recordAt (now (t .entry)) (i * 64) ⌝ }
+{
+    let at = i * 64;
+    Record {
+        key: codec::u32_at(t, at),
+        count: codec::u32_at(t, at + 4),
+        top: codec::u32_at(t, at + 8),
+        zero: codec::u32_at(t, at + 12),
+        high: get_held(t, at + 16),
+        middle: get_held(t, at + 32),
+        low: get_held(t, at + 48),
+    }
+}
+
+fn put_held(t: &mut [u8], at: usize, x: Held)
+    requires { ⌜ at + 16 ≤ length (now t) ⌝ }
+    ensures { λ r. ⌜ now (t .exit) ≡ sets (now (t .entry)) at (encodeHeld x) ⌝ }
+{
+    codec::put_u64(t, at, x.residue);
+    codec::put_i64(t, at + 8, x.carry);
+}
+
+// Record i becomes r.
+pub fn put(t: &mut [u8], i: usize, r: Record)
+    requires { ⌜ i * 64 + 64 ≤ length (now t) ⌝ }
+    ensures { λ _. ⌜ (now (t .exit) ≡ sets (now (t .entry)) (i * 64) (encode r)) × (decode (encode r) ≡ r) ⌝ }
+{
+    let at = i * 64;
+    codec::put_u32(t, at, r.key);
+    codec::put_u32(t, at + 4, r.count);
+    codec::put_u32(t, at + 8, r.top);
+    codec::put_u32(t, at + 12, r.zero);
+    put_held(t, at + 16, r.high);
+    put_held(t, at + 32, r.middle);
+    put_held(t, at + 48, r.low);
+}
+
+// Where a key stands among the records, or how many stand before the place where it would.
+pub enum Place {
+    At(usize),
+    Gap(usize),
+}
+
+pub fn find(t: &[u8], g: usize, key: u32) -> Place
+    requires { ⌜ (g * 64 ≤ length (now t)) × T (rising (keys (records (now t) g))) ⌝ }
+    ensures { λ r. ⌜ r ≡ place key (keys (records (now (t .entry)) g)) ⌝ }
+{
+    let mut lo = 0;
+    let mut hi = g;
+    while lo < hi {
+        let mid = lo + (hi - lo) / 2;
+        if codec::u32_at(t, mid * 64) < key {
+            lo = mid + 1;
+        } else {
+            hi = mid;
+        }
+    }
+    if lo < g {
+        if codec::u32_at(t, lo * 64) == key {
+            return Place::At(lo);
+        }
+    }
+    Place::Gap(lo)
+}
+
+fn both(a: bool, b: bool) -> bool
+    ensures { λ r. ⌜ r ≡ a && b ⌝ }
+{
+    if a { b } else { false }
+}
+
+fn either(a: bool, b: bool) -> bool
+    ensures { λ r. ⌜ r ≡ a || b ⌝ }
+{
+    if a { true } else { b }
+}
+
+// Whether k * 2^50 + s is at most count * 2^39: neither side need fit 64 bits.
+fn at_most(k: u64, s: u64, count: u32) -> bool
+    requires { ⌜ s ≤ 2 ^ 50 ⌝ }
+    ensures { λ r. ⌜ r ≡ leb (k * 2 ^ 50 + s) (count * 2 ^ 39) ⌝ }
+{
+    let q = (count / 2048) as u64;
+    if k < q {
+        return true;
+    }
+    if q < k {
+        return false;
+    }
+    s <= ((count % 2048) as u64) * 549755813888
+}
+
+fn held_sound(x: Held, count: u32) -> bool
+    ensures { λ r. ⌜ r ≡ soundHeld count x ⌝ }
+{
+    let s = x.residue;
+    let c = x.carry;
+    if s < 1125899906842624 {
+        if c < 0 {
+            return at_most(!c as u64, 1125899906842624 - s, count);
+        }
+        return at_most(c as u64, s, count);
+    }
+    false
+}
+
+fn is_zero(x: Held) -> bool
+    ensures { λ r. ⌜ r ≡ isZero x ⌝ }
+{
+    both(x.residue == 0, x.carry == 0)
+}
+
+fn record_sound(r: Record) -> bool
+    ensures { λ x. ⌜ x ≡ soundRecord r ⌝ }
+{
+    let n = r.count;
+    let head = both(both(1 <= n, r.top <= 52), r.zero == 0);
+    let a = both(
+        both(both(head, held_sound(r.high, n)), held_sound(r.middle, n)),
+        held_sound(r.low, n),
+    );
+    let b = both(a, either(1 <= r.top, is_zero(r.middle)));
+    both(b, either(2 <= r.top, is_zero(r.low)))
+}
+
+fn rising_keys(t: &[u8], g: usize) -> bool
+    requires { ⌜ g * 64 ≤ length (now t) ⌝ }
+    ensures { λ r. ⌜ r ≡ rising (keys (records (now (t .entry)) g)) ⌝ }
+{
+    let mut j = 0;
+    while j + 1 < g {
+        let x = codec::u32_at(t, j * 64);
+        let y = codec::u32_at(t, (j + 1) * 64);
+        if y <= x {
+            return false;
+        }
+        j += 1;
+    }
+    true
+}
+
+fn records_sound(t: &[u8], g: usize) -> bool
+    requires { ⌜ g * 64 ≤ length (now t) ⌝ }
+    ensures { λ r. ⌜ r ≡ soundRecords (records (now (t .entry)) g) ⌝ }
+{
+    let mut i = 0;
+    while i < g {
+        let ok = record_sound(get(t, i));
+        if !ok {
+            return false;
+        }
+        i += 1;
+    }
+    true
+}
+
+// Whether the bytes hold a sound table of g records.
+pub fn is_sound(t: &[u8], g: usize) -> bool
+    ensures { λ r. ⌜ r ≡ sound (now (t .entry)) g ⌝ }
+{
+    if t.len() / 64 < g {
+        return false;
+    }
+    if 1024 < g {
+        return false;
+    }
+    let a = rising_keys(t, g);
+    let b = records_sound(t, g);
+    both(a, b)
+}
