@@ -1,0 +1,6 @@
+-- Laws of adding and merging.
+pub mod Lists
+pub mod Combine
+pub mod Lookup
+pub mod Proper
+pub mod Bytes
