@@ -1,25 +1,22 @@
 -- Sections in bytes: what is written is read back, and is a sound table.
-use Prim.Native.Nat.{ℕ, zero, suc, _+_, _-_, _*_, _/_, _^_, _≤_, _<_}
-use mathlib.Core.Path.{_≡_, refl, sym, _∙_, ap, ap₂}
-use mathlib.Core.Bool.{Bool, true, false, _&&_, _||_}
+use Prim.Native.Nat.{ℕ, zero, suc, _+_, _-_, _*_, _^_, _≤_, _<_}
+use mathlib.Core.Path.{_≡_, refl, _∙_, ap, ap₂}
+use mathlib.Core.Bool.{true, _||_}
 use mathlib.Core.List.{List, [], _∷_, _++_, map, append-assoc}
 use native.Mathlib.Omega.{arith}
 use native.Mathlib.Nat.{mul-comm}
 use native.Mathlib.Decide.{decLe}
-use borrow.Author.Tests.{lt-ltb, le-leb, lt-leb, eqb-true, ltb-true}
-use lib.Dec.{T, leb, ltb, eqb}
-use lib.Ieee.Fits.{and-l, and-r, and-i}
-use lib.ListN.{length, drop, length-append, length-drop, length-map}
+use borrow.Author.Tests.{lt-ltb, le-leb, lt-leb}
+use lib.Dec.{leb}
+use lib.ListN.{length, drop, length-append, length-drop}
 use lib.Seq.{drop-append-add, drop-drop}
 use lib.IntN.{ℤ, pos, negsuc, natAbs}
 use mir.Syntax.{w64}
 use mir.Val.{SFits}
 use Rattle.codec.specs.Cells.{cells, image}
 use Rattle.codec.proofs.Cells.{cells-cons, length-image}
-use Rattle.level.specs.Carry.{carryOf, residueOf, heldOf, totalOf}
-use Rattle.level.specs.declared.Held.{Held}
-use Rattle.level.proofs.Carry.{residue-lt, held, held-total}
-use Rattle.record.specs.declared.Record.{Record}
+use Rattle.level.specs.Carry.{carryOf, residueOf, heldOf}
+use Rattle.level.proofs.Carry.{residue-lt, held}
 use Rattle.record.specs.Layout.{encode, decode, records, capacity}
 use Rattle.record.specs.Keys.{keys, rising}
 use Rattle.record.specs.Sound.{soundHeld, isZero, soundRecord, soundRecords, sound}

@@ -31,21 +31,21 @@ unfolding levelOf
 levelOf-above s j h =
     rw (ne-eqb j (s .top) (λ e. omega arith), ne-eqb (j + 1) (s .top) (λ e. omega arith), ne-eqb (j + 2) (s .top) (λ e. omega arith))
 
+below-is : (f : ℕ → ℤ) (t i j : ℕ) → t ≡ j + i → below f t i ≡ f j
+below-is f t i j e =
+    let m : t - i ≡ j = omega arith in
+    rw (le-leb i t (omega arith), m)
+
 -- a section made from a column holds the column at its three levels and above them, where the column has 0 above the top
 pub levelOf-at : (k n t : ℕ) (f : ℕ → ℤ) (j : ℕ) → t ≤ j + 2 → (t < j → f j ≡ pos 0) → levelOf (sectionAt k n t f) j ≡ f j
 unfolding levelOf
 levelOf-at k n t f j l z = go (stands j t l)
   where
     go : Stands j t → levelOf (sectionAt k n t f) j ≡ f j
-    go (first e) =
-        let m : t - 0 ≡ j = omega arith in
-        rw (eq-eqb j t (sym e), le-leb 0 t (omega arith), m)
-    go (second e) =
-        let m : t - 1 ≡ j = omega arith in
-        rw (ne-eqb j t (λ h. omega arith), eq-eqb (j + 1) t (sym e), le-leb 1 t (omega arith), m)
+    go (first e) = rw (eq-eqb j t (sym e)) (below-is f t 0 j (omega arith))
+    go (second e) = rw (ne-eqb j t (λ h. omega arith), eq-eqb (j + 1) t (sym e)) (below-is f t 1 j e)
     go (third e) =
-        let m : t - 2 ≡ j = omega arith in
-        rw (ne-eqb j t (λ h. omega arith), ne-eqb (j + 1) t (λ h. omega arith), eq-eqb (j + 2) t (sym e), le-leb 2 t (omega arith), m)
+        rw (ne-eqb j t (λ h. omega arith), ne-eqb (j + 1) t (λ h. omega arith), eq-eqb (j + 2) t (sym e)) (below-is f t 2 j e)
     go (over h) = levelOf-above (sectionAt k n t f) j h ∙ sym (z h)
 
 -- columns that agree from level t - 2 upwards make one section

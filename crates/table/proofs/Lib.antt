@@ -4,3 +4,4 @@ pub mod Combine
 pub mod Lookup
 pub mod Proper
 pub mod Bytes
+pub mod Read
