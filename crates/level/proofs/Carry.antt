@@ -1,4 +1,4 @@
--- A total is its carry and its residue, in one way only. Assumes nothing.
+-- A total is its carry and its residue, in one way only.
 use mathlib.Core.Path.{_≡_, sym, ap, ap₂, _∙_}
 use Prim.Native.Nat.{ℕ, zero, suc, _+_, _-_, _*_, _/_, _%_, _^_, _<_}
 use native.Mathlib.Omega.{arith}
@@ -6,7 +6,7 @@ use borrow.Author.Tests.{lt-ltb}
 use lib.IntN.{ℤ, pos, negsuc, negℤ, _+ℤ_, _*ℤ_, +ℤ-assoc}
 use Rattle.level.specs.Carry.{carryOf, residueOf, heldOf, totalOf}
 use Rattle.level.specs.declared.Held.{Held}
-use Rattle.level.proofs.Signs.{mul-sum, sum-pairs}
+use Rattle.integers.proofs.Laws.{+ℤ-*ℤ, +ℤ-interchange}
 
 pub residue-lt : (z : ℤ) → residueOf z < 2 ^ 50
 residue-lt (pos n) = omega arith
@@ -39,10 +39,10 @@ held-sum a b =
     let c = a .carry +ℤ b .carry in
     let k : pos s ≡ pos (s / 2 ^ 50) *ℤ u +ℤ pos (s % 2 ^ 50) = ap pos (omega arith) in
     let e : totalOf a +ℤ totalOf b ≡ (c +ℤ pos (s / 2 ^ 50)) *ℤ u +ℤ pos (s % 2 ^ 50) =
-    sum-pairs (a .carry *ℤ u) (pos (a .residue)) (b .carry *ℤ u) (pos (b .residue))
-    ∙ ap₂ _+ℤ_ (sym (mul-sum (a .carry) (b .carry) u)) k
+    +ℤ-interchange (a .carry *ℤ u) (pos (a .residue)) (b .carry *ℤ u) (pos (b .residue))
+    ∙ ap₂ _+ℤ_ (sym (+ℤ-*ℤ (a .carry) (b .carry) u)) k
     ∙ sym (+ℤ-assoc (c *ℤ u) (pos (s / 2 ^ 50) *ℤ u) (pos (s % 2 ^ 50)))
-    ∙ ap (λ (z : ℤ). z +ℤ pos (s % 2 ^ 50)) (sym (mul-sum c (pos (s / 2 ^ 50)) u)) in
+    ∙ ap (λ (z : ℤ). z +ℤ pos (s % 2 ^ 50)) (sym (+ℤ-*ℤ c (pos (s / 2 ^ 50)) u)) in
     ap heldOf e ∙ held-total (record { residue = s % 2 ^ 50; carry = c +ℤ pos (s / 2 ^ 50) }) (omega arith)
 
 -- the low 50 bits of a negative number's two's complement

@@ -1,4 +1,4 @@
--- The top of a row is the smallest level whose 2^39 units exceed the row's size. Assumes nothing.
+-- The top of a row is the smallest level whose 2^39 units exceed the row's size.
 use mathlib.Core.Path.{_≡_, refl, sym, subst}
 use mathlib.Core.Bool.{Bool, true, false, cond}
 use mathlib.Core.Logic.{inl, inr}

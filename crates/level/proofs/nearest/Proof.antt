@@ -1,4 +1,4 @@
--- `nearest` goes by what remains beside half a unit, as the definition does. Assumes nothing.
+-- `nearest` goes by what remains beside half a unit, as the definition does.
 use mathlib.Core.Path.{sym, ap, _∙_}
 use Prim.Native.Nat.{ℕ, _+_, _/_, _^_}
 use native.Mathlib.Nat.{mod-le, div-le-self}
