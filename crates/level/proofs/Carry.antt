@@ -28,6 +28,10 @@ pub residue-of : (c : ℤ) (s : ℕ) → s < 2 ^ 50 → residueOf (c *ℤ pos (2
 residue-of (pos a) s h = omega arith
 residue-of (negsuc a) s h = rw (neg-add (suc a * 2 ^ 50) s (omega arith)) (omega arith)
 
+-- no other residue in range and carry make the total
+pub held-unique : (z c : ℤ) (s : ℕ) → s < 2 ^ 50 → z ≡ c *ℤ pos (2 ^ 50) +ℤ pos s → (c ≡ carryOf z) × (s ≡ residueOf z)
+held-unique z c s h e = (sym (ap carryOf e ∙ carry-of c s h), sym (ap residueOf e ∙ residue-of c s h))
+
 -- a kept total comes back, and two kept totals are added by their residues and carries
 pub held-total : (h : Held) → h .residue < 2 ^ 50 → heldOf (totalOf h) ≡ h
 held-total h l = λ i. record { residue = residue-of (h .carry) (h .residue) l i; carry = carry-of (h .carry) (h .residue) l i }

@@ -1,10 +1,10 @@
 -- Worked examples, computed from the definitions.
 use Prim.Native.Nat.{ℕ, _^_, _+_, _-_}
 use mathlib.Core.Path.{_≡_, refl}
-use mathlib.Core.Bool.{Bool, true, false}
+use mathlib.Core.Bool.{true, false}
 use mathlib.Core.List.{List, [], _∷_, _++_}
-use lib.IntN.{ℤ, pos, negsuc}
-use lib.ListN.{length, replicate}
+use lib.IntN.{pos, negsuc}
+use lib.ListN.{replicate}
 use Rattle.codec.specs.Bytes.{number, bytes, numberAt}
 use Rattle.codec.specs.Cells.{cells}
 use Rattle.level.specs.declared.Held.{Held}
