@@ -1,0 +1,4 @@
+-- The definitions that the contracts cite.
+pub mod File
+pub mod Answer
+pub mod Rows
