@@ -2,3 +2,4 @@
 pub mod File
 pub mod Answer
 pub mod Rows
+pub mod Cases
