@@ -1,4 +1,4 @@
--- A total is its carry and its residue, in one way only. Assumes nothing.
+-- A total is its carry and its residue, in one way only.
 use mathlib.Core.Path.{_≡_, sym, ap, ap₂, _∙_}
 use Prim.Native.Nat.{ℕ, zero, suc, _+_, _-_, _*_, _/_, _%_, _^_, _<_}
 use native.Mathlib.Omega.{arith}
@@ -6,7 +6,7 @@ use borrow.Author.Tests.{lt-ltb}
 use lib.IntN.{ℤ, pos, negsuc, negℤ, _+ℤ_, _*ℤ_, +ℤ-assoc}
 use Rattle.level.specs.Carry.{carryOf, residueOf, heldOf, totalOf}
 use Rattle.level.specs.declared.Held.{Held}
-use Rattle.level.proofs.Signs.{mul-sum, sum-pairs}
+use Rattle.integers.proofs.Laws.{+ℤ-*ℤ, +ℤ-interchange}
 
 pub residue-lt : (z : ℤ) → residueOf z < 2 ^ 50
 residue-lt (pos n) = omega arith
@@ -28,6 +28,10 @@ pub residue-of : (c : ℤ) (s : ℕ) → s < 2 ^ 50 → residueOf (c *ℤ pos (2
 residue-of (pos a) s h = omega arith
 residue-of (negsuc a) s h = rw (neg-add (suc a * 2 ^ 50) s (omega arith)) (omega arith)
 
+-- no other residue in range and carry make the total
+pub held-unique : (z c : ℤ) (s : ℕ) → s < 2 ^ 50 → z ≡ c *ℤ pos (2 ^ 50) +ℤ pos s → (c ≡ carryOf z) × (s ≡ residueOf z)
+held-unique z c s h e = (sym (ap carryOf e ∙ carry-of c s h), sym (ap residueOf e ∙ residue-of c s h))
+
 -- a kept total comes back, and two kept totals are added by their residues and carries
 pub held-total : (h : Held) → h .residue < 2 ^ 50 → heldOf (totalOf h) ≡ h
 held-total h l = λ i. record { residue = residue-of (h .carry) (h .residue) l i; carry = carry-of (h .carry) (h .residue) l i }
@@ -39,10 +43,10 @@ held-sum a b =
     let c = a .carry +ℤ b .carry in
     let k : pos s ≡ pos (s / 2 ^ 50) *ℤ u +ℤ pos (s % 2 ^ 50) = ap pos (omega arith) in
     let e : totalOf a +ℤ totalOf b ≡ (c +ℤ pos (s / 2 ^ 50)) *ℤ u +ℤ pos (s % 2 ^ 50) =
-    sum-pairs (a .carry *ℤ u) (pos (a .residue)) (b .carry *ℤ u) (pos (b .residue))
-    ∙ ap₂ _+ℤ_ (sym (mul-sum (a .carry) (b .carry) u)) k
+    +ℤ-interchange (a .carry *ℤ u) (pos (a .residue)) (b .carry *ℤ u) (pos (b .residue))
+    ∙ ap₂ _+ℤ_ (sym (+ℤ-*ℤ (a .carry) (b .carry) u)) k
     ∙ sym (+ℤ-assoc (c *ℤ u) (pos (s / 2 ^ 50) *ℤ u) (pos (s % 2 ^ 50)))
-    ∙ ap (λ (z : ℤ). z +ℤ pos (s % 2 ^ 50)) (sym (mul-sum c (pos (s / 2 ^ 50)) u)) in
+    ∙ ap (λ (z : ℤ). z +ℤ pos (s % 2 ^ 50)) (sym (+ℤ-*ℤ c (pos (s / 2 ^ 50)) u)) in
     ap heldOf e ∙ held-total (record { residue = s % 2 ^ 50; carry = c +ℤ pos (s / 2 ^ 50) }) (omega arith)
 
 -- the low 50 bits of a negative number's two's complement

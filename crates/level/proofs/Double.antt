@@ -1,4 +1,4 @@
--- The significand and the size of a row, by its exponent field. Assumes nothing.
+-- The significand and the size of a row, by its exponent field.
 use mathlib.Core.Path.{_≡_}
 use mathlib.Core.Bool.{Bool, true, false, cond}
 use Prim.Native.Nat.{ℕ, _+_, _^_, _<_}

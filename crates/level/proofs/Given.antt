@@ -1,4 +1,4 @@
--- What a number gives to the levels, for a general level number. Assumes nothing.
+-- What a number gives to the levels, for a general level number.
 use mathlib.Core.Path.{_≡_, refl, sym, ap, _∙_}
 use mathlib.Core.Bool.{Bool, true, false, cond}
 use mathlib.Core.Logic.{inl, inr}
@@ -14,7 +14,8 @@ use borrow.Author.Tests.{eqb-true, eqb-false}
 use Rattle.level.specs.Level.{unit, nearestTo, left, given}
 use Rattle.level.specs.Cut.{apart, restOf, overOf}
 use Rattle.level.proofs.Near.{closest-near, closest-le, closest-small}
-use Rattle.level.proofs.Signs.{natAbs-neg, natAbs-signed, neg-mul, sub-signed}
+use Rattle.integers.proofs.Laws.{natAbs-neg, negℤ-*ℤ}
+use Rattle.level.proofs.Signs.{natAbs-signed, sub-signed}
 
 -- ---- units
 pub unit-pos : (j : ℕ) → 0 < unit j
@@ -43,7 +44,7 @@ nearest-small (negsuc n) u h l = ap (λ (m : ℕ). negℤ (pos m)) (closest-smal
 
 -- ---- what is left
 pub left-neg : (z : ℤ) (j : ℕ) → left (negℤ z) j ≡ negℤ (left z j)
-left-neg z j = rw (nearest-neg z (unit j) (unit-pos j), neg-mul, ← negℤ-+ℤ)
+left-neg z j = rw (nearest-neg z (unit j) (unit-pos j), negℤ-*ℤ, ← negℤ-+ℤ)
 
 -- at most half a unit of the level
 apart-half : (x y u : ℕ) → x * 2 ≤ y * 2 + u → y * 2 ≤ x * 2 + u → apart x y * 2 ≤ u

@@ -1,4 +1,4 @@
--- What the levels from t down hold of a number, and what is left. Assumes nothing.
+-- What the levels from t down hold of a number, and what is left.
 use mathlib.Core.Path.{_≡_, refl, sym, ap, ap₂, _∙_, fun-ext}
 use Prim.Native.Nat.{ℕ, zero, suc, _-_, _*_, _^_, _≤_, _<_}
 use native.Mathlib.Nat.{sub-zero, zero-sub, suc-sub-suc, le-refl, le-trans, zero-mul, mul-assoc}
@@ -21,13 +21,23 @@ leftAfter t z zero = z
 leftAfter zero z (suc n) = left z 0
 leftAfter (suc s) z (suc n) = leftAfter s (left z (suc s)) n
 
--- at most half a unit of the last of these levels; so nothing once level 0 is among them
+-- at most half a unit of the last of these levels
 pub after-half : (t : ℕ) (z : ℤ) (n : ℕ) → natAbs (leftAfter t z (suc n)) * 2 ≤ unit (t - n)
 unfolding leftAfter
 after-half zero z zero = left-half z 0
 after-half zero z (suc n) = rw (zero-sub (suc n)) (left-half z 0)
 after-half (suc s) z zero = rw sub-zero (left-half z (suc s))
 after-half (suc s) z (suc n) = rw (suc-sub-suc s n) (after-half s (left z (suc s)) n)
+
+-- so nothing is left after level 0
+pub after-none : (t : ℕ) (z : ℤ) (n : ℕ) → t ≤ n → leftAfter t z (suc n) ≡ pos 0
+after-none t z n h =
+    let e : t - n ≡ 0 = omega arith in
+    none (leftAfter t z (suc n)) (rw e at (after-half t z n))
+  where
+    none : (w : ℤ) → natAbs w * 2 ≤ unit 0 → w ≡ pos 0
+    none (pos m) l = ap pos (omega arith)
+    none (negsuc m) l = absurd (omega arith)
 
 after-step : (t : ℕ) (z : ℤ) (n : ℕ) → leftAfter t z (suc n) ≡ leftAfter t z n -ℤ rung t z n *ℤ pos (unit (t - n))
 unfolding leftAfter rung

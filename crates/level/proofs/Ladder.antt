@@ -1,4 +1,4 @@
--- What a number gives to a level and to the levels below it, by the sizes of what is left. Assumes nothing.
+-- What a number gives to a level and to the levels below it, by the sizes of what is left.
 use mathlib.Core.Path.{_≡_, refl, sym, ap, ap₂, _∙_}
 use mathlib.Core.Bool.{Bool, true, false, not}
 use Prim.Native.Nat.{ℕ, zero, suc, _-_, _*_, _^_, _≤_, _<_, zero-le}

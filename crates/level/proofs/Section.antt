@@ -1,4 +1,4 @@
--- The kept value of a section is near the exact sum of its rows. Assumes nothing.
+-- The kept value of a section is near the exact sum of its rows.
 use mathlib.Core.Path.{_≡_, refl, sym, ap, ap₂, _∙_}
 use mathlib.Core.Bool.{Bool, true, false, cond}
 use mathlib.Core.List.{List, [], _∷_}
@@ -10,7 +10,7 @@ use lib.ListN.{length}
 use lib.IntN.{ℤ, pos, negℤ, natAbs, _+ℤ_, _-ℤ_, _*ℤ_, +ℤ-comm, zero-*ℤ, negℤ-+ℤ, +ℤ-negℤ-cancel}
 use Rattle.level.specs.Double.{value}
 use Rattle.level.specs.Level.{unit, top, contribution, below, kept, topOf, total, exactSum}
-use Rattle.level.proofs.Signs.{mul-sum, sum-pairs, natAbs-sum}
+use Rattle.integers.proofs.Laws.{+ℤ-*ℤ, +ℤ-interchange, natAbs-+ℤ}
 use Rattle.level.proofs.Top.{contribution-bound}
 use Rattle.level.proofs.Kept.{leftAfter, after-half, kept-row}
 
@@ -27,8 +27,8 @@ unfolding kept
 kept-sum g h t zero = refl
 kept-sum g h t (suc n) =
     let u = pos (unit (t - n)) in
-    ap₂ _+ℤ_ (kept-sum g h t n) (ap (λ (z : ℤ). z *ℤ u) (below-sum g h t n) ∙ mul-sum (below g t n) (below h t n) u)
-    ∙ sum-pairs (kept g t n) (kept h t n) (below g t n *ℤ u) (below h t n *ℤ u)
+    ap₂ _+ℤ_ (kept-sum g h t n) (ap (λ (z : ℤ). z *ℤ u) (below-sum g h t n) ∙ +ℤ-*ℤ (below g t n) (below h t n) u)
+    ∙ +ℤ-interchange (kept g t n) (kept h t n) (below g t n *ℤ u) (below h t n *ℤ u)
 
 kept-none : (t n : ℕ) → kept (λ (j : ℕ). pos 0) t n ≡ pos 0
 unfolding kept
@@ -50,7 +50,7 @@ row-near b t n h =
     rw e (after-half t (value b) n)
 
 apart-sum : (a b k l : ℤ) → (a +ℤ b) -ℤ (k +ℤ l) ≡ (a -ℤ k) +ℤ (b -ℤ l)
-apart-sum a b k l = ap (λ (z : ℤ). a +ℤ b +ℤ z) (negℤ-+ℤ k l) ∙ sum-pairs a b (negℤ k) (negℤ l)
+apart-sum a b k l = ap (λ (z : ℤ). a +ℤ b +ℤ z) (negℤ-+ℤ k l) ∙ +ℤ-interchange a b (negℤ k) (negℤ l)
 
 pub section-near : (bs : List ℕ) (t n : ℕ) → topOf bs ≤ t → natAbs (exactSum bs -ℤ kept (total bs) t (suc n)) * 2 ≤ length bs * unit (t - n)
 unfolding topOf total exactSum
@@ -60,11 +60,11 @@ section-near (b ∷ bs) t n h =
     let w = kept (total bs) t (suc n) in
     let one = row-near b t n (le-trans (le-max-left (top b) (topOf bs)) h) in
     let rest = section-near bs t n (le-trans (le-max-right (top b) (topOf bs)) h) in
-    let sizes = natAbs-sum (value b -ℤ v) (exactSum bs -ℤ w) in
+    let sizes = natAbs-+ℤ (value b -ℤ v) (exactSum bs -ℤ w) in
     rw (kept-sum (contribution b) (total bs) t (suc n), apart-sum (value b) (exactSum bs) v w) (omega arith)
 
 -- no total exceeds 2^39 for each row
 pub total-bound : (bs : List ℕ) (j : ℕ) → natAbs (total bs j) ≤ length bs * 2 ^ 39
 unfolding total
 total-bound [] j = zero-le
-total-bound (b ∷ bs) j = omega (arith, natAbs-sum (contribution b j) (total bs j), contribution-bound b j, total-bound bs j)
+total-bound (b ∷ bs) j = omega (arith, natAbs-+ℤ (contribution b j) (total bs j), contribution-bound b j, total-bound bs j)

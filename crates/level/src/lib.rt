@@ -3,7 +3,7 @@ ghost use mathlib.Core.Path.{_≡_};
 ghost use Prim.Native.Nat.{_+_, _-_, _*_, _%_, _^_, _<_, _≤_};
 ghost use lib.IntN.{natAbs, _+ℤ_};
 ghost use lib.Ieee.Nearest.{closest};
-ghost use Rattle.level.specs.Double.{field, fraction, significand, negative, signed};
+ghost use Rattle.level.specs.Double.{field, fraction, finite, significand, negative, signed};
 ghost use Rattle.level.specs.Level.{top};
 ghost use Rattle.level.specs.Cut.{shiftOf, restOf, overOf, turn};
 ghost use Rattle.level.specs.Carry.{heldOf, totalOf};
@@ -40,6 +40,13 @@ pub fn is_negative(bits: u64) -> bool
     bits >> 63 == 1
 }
 
+// Whether the bits are neither an infinity's nor a NaN's.
+pub fn is_finite(bits: u64) -> bool
+    ensures { λ r. ⌜ r ≡ finite bits ⌝ }
+{
+    exponent_field(bits) != 2047
+}
+
 // The row's top: by the exponent field, or by the fraction's size where that is 0.
 fn top_level(bits: u64) -> u64
     ensures { λ r. ⌜ r ≡ top bits ⌝ }
@@ -48,7 +55,11 @@ fn top_level(bits: u64) -> u64
     if e != 0 {
         return (e + 52) / 40;
     }
-    if fraction_field(bits) < (1 << 39) { 0 } else { 1 }
+    if fraction_field(bits) < (1 << 39) {
+        0
+    } else {
+        1
+    }
 }
 
 // The power of two that the significand's last digit counts.
@@ -81,6 +92,13 @@ pub fn last_digits(x: u64, d: u64) -> u64
     x & (power(d) - 1)
 }
 
+// 1 for an odd number, 0 for an even one.
+fn parity(x: u64) -> u64
+    ensures { λ r. ⌜ r ≡ x % 2 ⌝ }
+{
+    x & 1
+}
+
 // The whole number nearest to x / 2^d, an exact half going to the even number.
 fn nearest(x: u64, d: u64) -> u64
     requires { ⌜ (x < 2 ^ 53) × (d < 54) ⌝ }
@@ -92,7 +110,7 @@ fn nearest(x: u64, d: u64) -> u64
     if twice < unit {
         whole
     } else if twice == unit {
-        whole + (whole & 1)
+        whole + parity(whole)
     } else {
         whole + 1
     }

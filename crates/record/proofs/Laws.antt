@@ -1,23 +1,22 @@
 -- Laws of records in bytes.
-use Prim.Native.Nat.{ℕ, suc, _+_, _-_, _*_, _^_, _<_, _≤_}
-use mathlib.Core.Path.{_≡_, refl, sym, ap, ap₂, _∙_}
-use mathlib.Core.List.{List, _∷_, _++_, append-assoc}
+use Prim.Native.Nat.{ℕ, _+_, _*_, _^_, _<_, _≤_}
+use mathlib.Core.Path.{_≡_, sym, ap, ap₂, _∙_}
+use mathlib.Core.List.{List, _++_}
 use mathlib.Core.Bool.{true}
 use native.Mathlib.Omega.{arith}
 use native.Mathlib.Nat.{add-zero, add-assoc}
 use borrow.Author.Tests.{le-leb}
 use lib.Dec.{leb}
 use lib.ListN.{length, getD, set, take, drop, length-append, length-drop, length-map, take-append-drop}
-use lib.Seq.{sets, sets-eq, length-sets, length-take-le, take-add, drop-drop}
-use native.Mathlib.Numerals.{add-one}
+use lib.Seq.{sets, take-add, drop-drop}
 use lib.IntN.{ℤ}
 use mir.Syntax.{w64}
 use mir.Val.{toZ, ofZ, SFits}
 use mir.ValLaws.{toZ-ofZ, ofZ-toZ, ofZ-fits}
 use Rattle.codec.specs.Bytes.{bytes, numberAt}
-use Rattle.codec.proofs.Laws.{length-bytes, sets-then, numberAt-take, numberAt-drop, numberAt-left, numberAt-right, numberAt-bytes, drop-sets, sets-swap, AreBytes, drop-bytes, numberAt-lt, bytes-numberAt}
-use Rattle.codec.proofs.Cells.{getD-cells, cells-sets, cells-append, cells-take, map-cells, length-cells, cells-insert, image-cells}
-use Rattle.codec.specs.Cells.{cells, image}
+use Rattle.codec.proofs.Laws.{length-bytes, sets-then, numberAt-take, numberAt-drop, numberAt-left, numberAt-right, numberAt-bytes, drop-sets, AreBytes, drop-bytes, numberAt-lt, bytes-numberAt}
+use Rattle.codec.proofs.Cells.{getD-cells, cells-sets, cells-append, cells-take, map-cells, length-cells, image-cells}
+use Rattle.codec.specs.Cells.{image}
 use Rattle.level.specs.declared.Held.{Held}
 use Rattle.record.specs.declared.Record.{Record}
 use Rattle.record.specs.Layout.{heldAt, recordAt, encodeHeld, encode, decode, records}

@@ -1,7 +1,7 @@
 -- Laws of rising keys.
-use Prim.Native.Nat.{ℕ, zero, suc, _+_, _-_, _*_, _<_, _≤_, zero-le}
-use mathlib.Core.Path.{_≡_, refl, sym, ap, _∙_, subst}
-use mathlib.Core.Bool.{Bool, true, false, cond, _&&_, _||_, or-true, true≢false}
+use Prim.Native.Nat.{ℕ, zero, suc, _<_, _≤_, zero-le}
+use mathlib.Core.Path.{_≡_, refl, sym, ap, subst}
+use mathlib.Core.Bool.{Bool, true, false, cond, _||_, or-true, true≢false}
 use mathlib.Core.List.{List, [], _∷_, _++_, map}
 use native.Mathlib.Nat.{lt-trans, eq-or-lt-of-le}
 use mathlib.Core.Logic.{⊎-elim}
@@ -12,7 +12,6 @@ use lib.Arith.{lt-of-le-ne}
 use borrow.Author.Tests.{lt-ltb, le-ltb, eq-eqb, ne-eqb, ltb-true, ltb-false, eqb-false, eqb-true}
 use lib.ListN.{length, getD, take, drop}
 use Rattle.record.specs.Keys.{rising, countBelow, has, place}
-use Rattle.record.specs.declared.Place.{Place}
 use Rattle.record.specs.declared.Place.the-variants.{At, Gap}
 
 -- the first key is countBelow all the others

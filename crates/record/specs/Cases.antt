@@ -1,10 +1,10 @@
 -- Worked examples, computed from the definitions.
 use Prim.Native.Nat.{ℕ, _^_, _+_, _-_}
 use mathlib.Core.Path.{_≡_, refl}
-use mathlib.Core.Bool.{Bool, true, false}
+use mathlib.Core.Bool.{true, false}
 use mathlib.Core.List.{List, [], _∷_, _++_}
-use lib.IntN.{ℤ, pos, negsuc}
-use lib.ListN.{length, replicate}
+use lib.IntN.{pos, negsuc}
+use lib.ListN.{replicate}
 use Rattle.codec.specs.Bytes.{number, bytes, numberAt}
 use Rattle.codec.specs.Cells.{cells}
 use Rattle.level.specs.declared.Held.{Held}
@@ -14,10 +14,6 @@ use Rattle.record.specs.Layout.{decode, encode, records}
 use Rattle.record.specs.Keys.{keys, rising, countBelow, has, place}
 use Rattle.level.specs.Carry.{totalOf}
 use Rattle.record.specs.Sound.{soundHeld, isZero, soundRecord, soundRecords, sound}
-
-little-endian : bytes 4 0x01020304 ≡ 4 ∷ 3 ∷ 2 ∷ 1 ∷ []
-unfolding bytes
-little-endian = refl
 
 -- B2, row -1 : first residue 1125882726973440, carry -1, top 26
 abbrev nothing : Held

@@ -1,10 +1,10 @@
 -- The records of a table in its bytes: 64 bytes each, little-endian, from the front of the buffer.
-use Prim.Native.Nat.{ℕ, _+_, _*_, _/_, min}
+use Prim.Native.Nat.{ℕ, _+_, _/_, min}
 use mathlib.Core.List.{List, _++_}
 use mir.Syntax.{w64}
 use mir.Val.{toZ, ofZ}
 use Rattle.codec.specs.Bytes.{bytes, numberAt}
-use Rattle.codec.specs.Cells.{cells, image}
+use Rattle.codec.specs.Cells.{cells}
 use Rattle.level.specs.declared.Held.{Held}
 use Rattle.record.specs.declared.Record.{Record}
 

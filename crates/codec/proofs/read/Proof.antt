@@ -1,9 +1,8 @@
 use Prim.Native.Nat.{ℕ, suc, _+_, _-_, _*_, _≤_, _<_, _^_}
 use native.Mathlib.Omega.{arith}
-use borrow.Author.Needs.{needs}
-use Rattle.codec.specs.Bytes.{number, bytes, numberAt}
+use Rattle.codec.specs.Bytes.{number, numberAt}
 use Rattle.codec.proofs.Laws.{numberAt-cons}
-use mathlib.Core.Path.{_≡_, refl, sym, ap, ap₂, _∙_}
+use mathlib.Core.Path.{_≡_, refl}
 use mathlib.Core.List.{List}
 use native.Mathlib.Nat.{pow-le-pow-right, pow-suc, sub-self, sub-zero, add-zero}
 use lib.Dec.{lit<}

@@ -1,4 +1,4 @@
--- `add_held` adds two kept totals: the residues' sum gives the new residue, and its carry goes to the carries. Assumes nothing.
+-- `add_held` adds two kept totals: the residues' sum gives the new residue, and its carry goes to the carries.
 use mathlib.Core.Path.{_≡_, sym, ap, ap₂, _∙_}
 use Prim.Native.Nat.{ℕ, _+_, _/_, _^_, _<_}
 use native.Mathlib.Omega.{arith}
@@ -7,7 +7,7 @@ use mir.Syntax.{w64}
 use mir.Val.{toZ, ofZ}
 use mir.ValLaws.{toZ-ofZ}
 use lib.IntN.{ℤ, pos, natAbs, _+ℤ_}
-use Rattle.level.proofs.Signs.{natAbs-sum, back}
+use Rattle.integers.proofs.Laws.{natAbs-+ℤ, back}
 use Rattle.level.proofs.Carry.{held-sum}
 use Rattle.level.proofs.add_held.Statement.{statement}
 use Rattle.level.proofs.add_held.Tie as tie
@@ -18,7 +18,7 @@ module _ (x y p o : ℤ) (n : ℕ) (hx : natAbs x < 2 ^ 61) (hy : natAbs y < 2 ^
   first = ep ∙ ap₂ _+ℤ_ (back x (omega arith)) (back y (omega arith))
 
   first-small : natAbs p < 2 ^ 62
-  first-small = omega (arith, natAbs-sum x y, ap natAbs first)
+  first-small = omega (arith, natAbs-+ℤ x y, ap natAbs first)
 
   room : natAbs (toZ w64 (ofZ w64 p)) + natAbs (toZ w64 (ofZ w64 o)) < 2 ^ 63
   room = let k : natAbs o < 2 ^ 60 = omega (arith, ap natAbs eo) in rw (back p (omega (arith, first-small)), back o (omega arith)) (omega (arith, first-small))

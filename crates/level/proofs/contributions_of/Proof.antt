@@ -1,4 +1,4 @@
--- `contributions_of` gives a row's contributions from its top down: the significand goes down the levels in units of 2^d. Assumes nothing.
+-- `contributions_of` gives a row's contributions from its top down: the significand goes down the levels in units of 2^d.
 use mathlib.Core.Path.{_≡_, sym, _∙_}
 use mathlib.Core.Bool.{Bool}
 use Prim.Native.Nat.{ℕ, _*_, _^_, _≤_, _<_}

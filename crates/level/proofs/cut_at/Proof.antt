@@ -1,4 +1,4 @@
--- `cut_at` takes the whole units off, which a shift counts without losing a digit. Assumes nothing.
+-- `cut_at` takes the whole units off, which a shift counts without losing a digit.
 use mathlib.Core.Path.{_≡_, sym, ap, _∙_}
 use Prim.Native.Nat.{ℕ, _-_, _*_, _^_, _%_, _<_, _≤_}
 use native.Mathlib.Nat.{mod-eq-of-lt}

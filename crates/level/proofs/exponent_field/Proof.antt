@@ -1,4 +1,4 @@
--- `exponent_field` reads the exponent field: a mask of eleven ones is the remainder by 2^11. Assumes nothing.
+-- `exponent_field` reads the exponent field: a mask of eleven ones is the remainder by 2^11.
 use Prim.Native.Nat.{_/_, _^_}
 use lib.Bits.{and-mask}
 use Rattle.level.proofs.exponent_field.Statement.{statement}

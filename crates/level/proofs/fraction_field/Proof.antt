@@ -1,4 +1,4 @@
--- `fraction_field` reads the fraction: a mask of 52 ones is the remainder by 2^52. Assumes nothing.
+-- `fraction_field` reads the fraction: a mask of 52 ones is the remainder by 2^52.
 use lib.Bits.{and-mask}
 use Rattle.level.proofs.fraction_field.Statement.{statement}
 use Rattle.level.proofs.fraction_field.Tie as tie

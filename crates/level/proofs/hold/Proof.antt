@@ -1,4 +1,4 @@
--- `hold` divides by 2^50, rounding down: the low 50 bits are the residue, and a shift that copies the sign gives the carry. Assumes nothing.
+-- `hold` divides by 2^50, rounding down: the low 50 bits are the residue, and a shift that copies the sign gives the carry.
 use mathlib.Core.Path.{_≡_, ap, _∙_}
 use Prim.Native.Nat.{suc, _-_, _^_}
 use native.Mathlib.Omega.{arith}

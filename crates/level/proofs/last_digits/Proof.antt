@@ -1,4 +1,4 @@
--- `last_digits` is a remainder by a power of two. Assumes nothing.
+-- `last_digits` is a remainder by a power of two.
 use mathlib.Core.Path.{ap, _∙_}
 use Prim.Native.Nat.{ℕ, _-_}
 use native.Mathlib.Omega.{arith}

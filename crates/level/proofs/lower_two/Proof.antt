@@ -1,4 +1,4 @@
--- `lower_two` goes on with a rest: where 2^40 holds a whole number of units 2^d nothing is left after one level, and else after two. Assumes nothing.
+-- `lower_two` goes on with a rest: where 2^40 holds a whole number of units 2^d nothing is left after one level, and else after two.
 use mathlib.Core.Path.{_≡_, sym, ap, _∙_}
 use mathlib.Core.Bool.{Bool, false}
 use Prim.Native.Nat.{ℕ, _-_, _*_, _%_, _^_, _≤_, _<_}

@@ -1,4 +1,4 @@
--- `power` is a power of two: below 2^64 nothing is shifted out. Assumes nothing.
+-- `power` is a power of two: below 2^64 nothing is shifted out.
 use mathlib.Core.Path.{_∙_}
 use Prim.Native.Nat.{_^_}
 use native.Mathlib.Nat.{one-mul}

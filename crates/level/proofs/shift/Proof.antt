@@ -1,4 +1,4 @@
--- `shift` is the top's power less the significand's. Assumes nothing.
+-- `shift` is the top's power less the significand's.
 use native.Mathlib.Omega.{arith}
 use Rattle.level.proofs.Top.{top-le, top-place}
 use borrow.Author.Needs.{needs}

@@ -1,4 +1,4 @@
--- `top_level` is the top: the formula of the exponent field, or the test of a subnormal's fraction. Assumes nothing.
+-- `top_level` is the top: the formula of the exponent field, or the test of a subnormal's fraction.
 use mathlib.Core.Path.{sym, ap, _∙_}
 use Prim.Native.Nat.{ℕ, _+_, _/_}
 use native.Mathlib.Omega.{arith}

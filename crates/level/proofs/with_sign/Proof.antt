@@ -1,4 +1,4 @@
--- `with_sign` negates a size that fits an i64. Assumes nothing.
+-- `with_sign` negates a size that fits an i64.
 use mathlib.Core.Path.{_≡_, sym, ap, _∙_}
 use mathlib.Core.Bool.{Bool, true}
 use Prim.Native.Nat.{ℕ, _^_, _<_}

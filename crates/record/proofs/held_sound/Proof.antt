@@ -1,6 +1,6 @@
 use Prim.Native.Nat.{_^_}
-use mathlib.Core.Path.{_∙_, sym}
-use mathlib.Core.Bool.{true, false}
+use mathlib.Core.Path.{_∙_}
+use mathlib.Core.Bool.{false}
 use native.Mathlib.Omega.{arith}
 use borrow.Author.Tests.{lt-ltb, le-ltb}
 use mir.Syntax.{w64}
