@@ -1,11 +1,11 @@
 -- Laws of little-endian bytes, for any width.
 use Prim.Native.Nat.{ℕ, zero, suc, _+_, _-_, _*_, _/_, _%_, _^_, _<_, _≤_, zero-le}
 use mathlib.Core.Path.{_≡_, refl, sym, ap, subst, _∙_}
-use mathlib.Core.List.{List, [], _∷_, _++_}
-use native.Mathlib.Nat.{pow-suc, add-suc, suc-add, add-zero, le-of-eq, one-le-pow}
+use mathlib.Core.List.{List, [], _∷_, _++_, append-assoc}
+use native.Mathlib.Nat.{pow-suc, add-suc, suc-add, add-zero, le-of-eq, le-refl, one-le-pow}
 use native.Mathlib.Omega.{arith}
 use lib.Dec.{T, leb, lit<}
-use borrow.Author.Tests.{le-ltb, leb-true}
+use borrow.Author.Tests.{le-ltb, le-leb, leb-true}
 use mathlib.Core.Bool.{Bool, true, false}
 use lib.IntN.{ℤ, pos, negsuc, natAbs}
 use lib.Signed.{nonNeg, ltZ}
@@ -13,7 +13,7 @@ use mir.Syntax.{w64}
 use mir.Val.{toZ, ofZ, SFits}
 use mir.ValLaws.{toZ-pos, toZ-ofZ}
 use lib.ListN.{length, getD, set, take, drop, length-drop, take-append-drop}
-use lib.Seq.{sets, drop-cons, drop-set-lt, take-set-le, drop-drop, drop-append-le, take-append-le, drop-append-add, take-all, length-take-le, getD-set-other, set-comm, getD-drop}
+use lib.Seq.{sets, sets-eq, length-sets, take-at, drop-at, drop-cons, drop-set-lt, take-set-le, drop-drop, drop-append-le, take-append-le, drop-append-add, take-all, length-take-le, getD-set-other, set-comm, getD-drop}
 use Rattle.codec.specs.Bytes.{number, bytes, numberAt}
 
 pub length-bytes : (w x : ℕ) → length (bytes w x) ≡ w
@@ -113,6 +113,31 @@ take-sets s (x ∷ xs) i k h = take-sets (set s i x) xs (suc i) k (omega arith) 
 pub getD-sets : (s xs : List ℕ) (i k d : ℕ) → k < i → getD (sets s i xs) k d ≡ getD s k d
 getD-sets s [] i k d h = refl
 getD-sets s (x ∷ xs) i k d h = getD-sets (set s i x) xs (suc i) k d (omega arith) ∙ getD-set-other s i k x d (omega arith)
+
+-- ---- a field in a buffer, of any width
+
+-- what is written is read back
+pub read-written : (w at x : ℕ) (s : List ℕ) → x < 256 ^ w → at + w ≤ length s → numberAt w (sets s at (bytes w x)) at ≡ x
+unfolding numberAt
+read-written w at x s h l =
+    let n = length-bytes w x in
+    let p : at ≤ length s = omega arith in
+    ap (λ (t : List ℕ). number (take w (drop at t))) (sets-eq (bytes w x) s at (omega arith) ∙ append-assoc (take at s) (bytes w x) (drop (at + length (bytes w x)) s))
+    ∙ ap (λ (t : List ℕ). number (take w t)) (drop-at (take at s) (bytes w x ++ drop (at + length (bytes w x)) s) at (length-take-le at s p))
+    ∙ ap number (take-at (bytes w x) (drop (at + length (bytes w x)) s) w n)
+    ∙ number-bytes w x h
+
+-- a field before what was written, or past it, is as it was
+pub read-before : (v a at : ℕ) (s xs : List ℕ) → a + v ≤ at → at ≤ length s → numberAt v (sets s at xs) a ≡ numberAt v s a
+read-before v a at s xs h l =
+    let k = le-leb (a + v) at h in
+    sym (numberAt-take v a at (sets s at xs) k (le-leb at (length (sets s at xs)) (rw length-sets l)))
+    ∙ ap (λ (t : List ℕ). numberAt v t a) (take-sets s xs at at (le-refl at))
+    ∙ numberAt-take v a at s k (le-leb at (length s) l)
+
+pub read-past : (v a at : ℕ) (s xs : List ℕ) → at + length xs ≤ a → numberAt v (sets s at xs) a ≡ numberAt v s a
+unfolding numberAt
+read-past v a at s xs h = ap (λ (t : List ℕ). number (take v t)) (drop-sets s xs at a h)
 
 -- a store before a run of stores may come first
 pub set-sets : (s xs : List ℕ) (i k x : ℕ) → k < i → set (sets s i xs) k x ≡ sets (set s k x) i xs

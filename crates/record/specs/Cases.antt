@@ -15,10 +15,6 @@ use Rattle.record.specs.Keys.{keys, rising, countBelow, has, place}
 use Rattle.level.specs.Carry.{totalOf}
 use Rattle.record.specs.Sound.{soundHeld, isZero, soundRecord, soundRecords, sound}
 
-little-endian : bytes 4 0x01020304 ≡ 4 ∷ 3 ∷ 2 ∷ 1 ∷ []
-unfolding bytes
-little-endian = refl
-
 -- B2, row -1 : first residue 1125882726973440, carry -1, top 26
 abbrev nothing : Held
 nothing = record { residue = 0; carry = pos 0 }
