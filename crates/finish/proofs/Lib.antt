@@ -10,3 +10,5 @@ pub mod Sums
 pub mod Nearest
 pub mod Hundredths
 pub mod Fraction
+pub mod Tables
+pub mod Outcomes

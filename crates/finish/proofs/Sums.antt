@@ -14,7 +14,7 @@ use lib.Ieee.{inf, binary64, ofBits, nanBits, size, round}
 use lib.Ieee.Bits.{nanBits-above}
 use lib.Ieee.Scale.{finite}
 use Rattle.finish.specs.Sum.{limit, nearestDouble, tooLarge}
-use Rattle.finish.specs.Answer.{sumFor}
+use Rattle.finish.specs.Steps.{sumFor}
 use Rattle.finish.specs.Limbs.{pattern, made}
 use Rattle.finish.specs.declared.SectionSum.the-variants.{Finite, TooLarge}
 use Rattle.finish.proofs.Pattern.{le-or-lt, limit-number, limit-infinite, limit-finite, limit-inf, inf-limit, pattern-value}

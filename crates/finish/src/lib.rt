@@ -1,5 +1,7 @@
 // Finishing a section: the double nearest to its kept value, and the mill figure of that double.
 use level::Held;
+use record::Place;
+use record::Record;
 use refusal::Refusal;
 ghost use mathlib.Core.Path.{_≡_};
 ghost use mathlib.Core.Bool.{cond};
@@ -11,8 +13,12 @@ ghost use lib.Ieee.Scale.{finite};
 ghost use Rattle.level.specs.Carry.{totalOf};
 ghost use Rattle.level.specs.Double.{signed};
 ghost use Rattle.refusal.specs.Outcome.{accepted, refused};
+ghost use Rattle.record.specs.Sound.{soundRecord};
+ghost use Rattle.record.specs.Section.{kept, meaning};
 ghost use Rattle.finish.specs.Figure.{millFigure, beyond};
-ghost use Rattle.finish.specs.Answer.{sumFor, figureAnswer};
+ghost use Rattle.finish.specs.Finish.{sumOutcome, figureOutcome, lineOutcome};
+ghost use Rattle.finish.specs.Answer.{sumAnswer, figureAnswer, lineAnswer};
+ghost use Rattle.finish.specs.Steps.{LookedUp, sumFor, FiniteSum, figureBy, lineBy};
 ghost use Rattle.finish.specs.Limbs.{InRange, keptOf, Bottom, wide, Digits, Limbs, Gap, Apart, raisedCarry, raisedTotal, Side, Moved, closestUp, unitsOf, pattern, made, hundredths};
 
 // A section's sum: a finite double, absent, or too large; or the table is not sound.
@@ -25,6 +31,19 @@ pub enum SectionSum {
 
 pub enum FigureAnswer {
     Figure(i32),
+    Refused(Refusal),
+}
+
+// A section's number, its row count, its sum and its mill figure.
+pub struct FinishedLine {
+    pub key: u32,
+    pub count: u32,
+    pub sum: f64,
+    pub figure: i32,
+}
+
+pub enum LineAnswer {
+    Line(FinishedLine),
     Refused(Refusal),
 }
 
@@ -328,4 +347,102 @@ fn figure_of(sum: f64) -> FigureAnswer
         nearest_hundredths(level::digits(bits), places(field), negative),
         negative,
     )
+}
+
+// The mill figure of a sum.
+fn figure_by(sum: SectionSum) -> FigureAnswer
+    requires { ⌜ FiniteSum sum ⌝ }
+    ensures { λ r. ⌜ figureAnswer r ≡ figureBy (sumAnswer sum) ⌝ }
+{
+    match sum {
+        SectionSum::Finite(x) => figure_of(x),
+        SectionSum::Absent => FigureAnswer::Refused(Refusal::SectionAbsent),
+        SectionSum::TooLarge => FigureAnswer::Refused(Refusal::SumTooLarge),
+        SectionSum::NotSound => FigureAnswer::Refused(Refusal::TableNotSound),
+    }
+}
+
+// The finished line of a finite sum.
+fn line_of(key: u32, count: u32, sum: f64) -> LineAnswer
+    requires { ⌜ T (finite sum) ⌝ }
+    ensures { λ r. ⌜ lineAnswer r ≡ lineBy key count (accepted sum) ⌝ }
+{
+    match figure_of(sum) {
+        FigureAnswer::Figure(figure) => LineAnswer::Line(FinishedLine {
+            key,
+            count,
+            sum,
+            figure,
+        }),
+        FigureAnswer::Refused(r) => LineAnswer::Refused(r),
+    }
+}
+
+// The finished line of a section with this sum.
+fn line_by(key: u32, count: u32, sum: SectionSum) -> LineAnswer
+    requires { ⌜ FiniteSum sum ⌝ }
+    ensures { λ r. ⌜ lineAnswer r ≡ lineBy key count (sumAnswer sum) ⌝ }
+{
+    match sum {
+        SectionSum::Finite(x) => line_of(key, count, x),
+        SectionSum::Absent => LineAnswer::Refused(Refusal::SectionAbsent),
+        SectionSum::TooLarge => LineAnswer::Refused(Refusal::SumTooLarge),
+        SectionSum::NotSound => LineAnswer::Refused(Refusal::TableNotSound),
+    }
+}
+
+// The record of a section in a sound table.
+enum Lookup {
+    Found(Record),
+    Missing,
+    Unsound,
+}
+
+fn look_up(table: &[u8], g: usize, key: u32) -> Lookup
+    ensures { λ r. ⌜ LookedUp r (now (table .entry)) g key ⌝ }
+{
+    if !record::is_sound(table, g) {
+        return Lookup::Unsound;
+    }
+    match record::find(table, g, key) {
+        Place::At(i) => Lookup::Found(record::get(table, i)),
+        Place::Gap(_) => Lookup::Missing,
+    }
+}
+
+// The sum of a sound record.
+fn record_sum(r: Record) -> SectionSum
+    requires { ⌜ T (soundRecord r) ⌝ }
+    ensures { λ x. ⌜ x ≡ sumFor (kept (meaning r)) ⌝ }
+{
+    nearest_double(r.top as u64, r.high, r.middle, r.low)
+}
+
+// The sum of section key in a table of g records.
+pub fn sum(table: &[u8], g: usize, key: u32) -> SectionSum
+    ensures { λ r. ⌜ sumAnswer r ≡ sumOutcome (now (table .entry)) g key ⌝ }
+{
+    match look_up(table, g, key) {
+        Lookup::Found(r) => record_sum(r),
+        Lookup::Missing => SectionSum::Absent,
+        Lookup::Unsound => SectionSum::NotSound,
+    }
+}
+
+// Its mill figure.
+pub fn figure(table: &[u8], g: usize, key: u32) -> FigureAnswer
+    ensures { λ r. ⌜ figureAnswer r ≡ figureOutcome (now (table .entry)) g key ⌝ }
+{
+    figure_by(sum(table, g, key))
+}
+
+// Its finished line.
+pub fn line(table: &[u8], g: usize, key: u32) -> LineAnswer
+    ensures { λ r. ⌜ lineAnswer r ≡ lineOutcome (now (table .entry)) g key ⌝ }
+{
+    match look_up(table, g, key) {
+        Lookup::Found(r) => line_by(r.key, r.count, record_sum(r)),
+        Lookup::Missing => LineAnswer::Refused(Refusal::SectionAbsent),
+        Lookup::Unsound => LineAnswer::Refused(Refusal::TableNotSound),
+    }
 }
