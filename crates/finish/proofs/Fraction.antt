@@ -1,0 +1,64 @@
+-- The mill figure of a float, from its bits: the figure depends on the fraction alone.
+use mathlib.Core.Path.{_≡_, refl, sym, ap, _∙_}
+use mathlib.Core.Bool.{Bool, true, false, not, cond}
+use Prim.Native.Nat.{ℕ, _+_, _-_, _*_, _^_, _≤_, _<_}
+use native.Mathlib.Nat.{le-trans, le-of-eq, le-add-right, mul-le-mul, mul-right-comm, lt-irrefl}
+use native.Mathlib.Omega.{arith}
+use lib.Dec.{T}
+use lib.Pow.{pow-add, pow-pos, pow-mono}
+use lib.Ieee.{Float, nan, inf, fin, binary64, up, down, ofBits, toBits, fits, isNan}
+use lib.Ieee.Fits.{down-pos}
+use lib.Ieee.Bits.{ofBits-toBits, toBits-lt}
+use lib.Ieee.Exact.{HasValue}
+use lib.Ieee.Scale as Scale
+use Rattle.refusal.specs.Outcome.{accepted, refused}
+use Rattle.level.specs.Double.{field, fraction, significand, size, negative, finite, signed}
+use Rattle.level.proofs.Double.{significand-normal}
+use Rattle.level.proofs.Binary64.{finite-binary64, value-binary64}
+use Rattle.finish.specs.Figure.{millFigure, beyond}
+use Rattle.finish.specs.Limbs.{hundredths}
+use Rattle.finish.proofs.Hundredths.{halved, floor-signed, halved-same, halved-units, far, figure-beyond}
+
+value-figure : (x : Float) (s : Bool) (a : ℕ) → HasValue x s a (2 ^ 1074) → millFigure x ≡ signed s (halved s (a * 200) (2 ^ 1074))
+unfolding millFigure
+value-figure nan s a h = absurd h
+value-figure (inf t) s a h = absurd h
+value-figure (fin t m e) s a h =
+    let same : a * 200 * down e ≡ m * up e * 200 * 2 ^ 1074 = mul-right-comm a 200 (down e) ∙ ap (λ (x : ℕ). x * 200) (sym (h .1)) ∙ mul-right-comm (m * up e) (2 ^ 1074) 200 in
+    rw (h .0) (floor-signed s (m * up e * 200) (down e) (down-pos e)
+    ∙ ap (λ (x : ℕ). signed s x) (sym (halved-same s (a * 200) (2 ^ 1074) (m * up e * 200) (down e) (pow-pos 1074) (down-pos e) same)))
+
+pub number : (x : Float) → T (Scale.finite x) → T (not (isNan x))
+unfolding isNan
+number nan h = h
+number (inf s) h = tt
+number (fin s m e) h = tt
+
+T-true : (b : Bool) → T b → b ≡ true
+T-true true h = refl
+T-true false h = absurd h
+
+-- a finite float, by its bits
+module _ (x : Float) (f : T (fits binary64 x)) (h : T (Scale.finite x)) where
+  bits-figure : millFigure x ≡ signed (negative (toBits binary64 x)) (halved (negative (toBits binary64 x)) (size (toBits binary64 x) * 200) (2 ^ 1074))
+  bits-figure =
+      let b = toBits binary64 x in
+      let e = ofBits-toBits binary64 x f in
+      let g : finite b ≡ true = sym (finite-binary64 b) ∙ ap Scale.finite e ∙ T-true (Scale.finite x) h in
+      ap millFigure (sym e) ∙ value-figure (ofBits binary64 b) (negative b) (size b) (value-binary64 b (toBits-lt binary64 x f) g)
+
+  -- where its field is at most 1074
+  pub near-figure : (r : ℕ) → r + (field (toBits binary64 x) - 1) ≡ 1074 → 0 < r
+      → signed (negative (toBits binary64 x)) (hundredths (significand (toBits binary64 x)) r (negative (toBits binary64 x))) ≡ millFigure x
+  near-figure r e p =
+      let b = toBits binary64 x in
+      ap (λ (n : ℕ). signed (negative b) n) (sym (halved-units (significand b) (field b - 1) r (negative b) e p)) ∙ sym bits-figure
+
+  -- a field from 1075 on has a hidden digit, and its value is 2^52 at least
+  pub far-figure : 1074 < field (toBits binary64 x) → refused 15 ≡ cond (beyond (millFigure x)) (refused 15) (accepted (millFigure x))
+  far-figure l =
+      let b = toBits binary64 x in
+      let k : 1074 ≤ field b - 1 = omega arith in
+      let g : 2 ^ 52 ≤ significand b = le-trans (le-add-right (2 ^ 52) (fraction b)) (le-of-eq (sym (significand-normal b (λ z. lt-irrefl 0 (omega arith))))) in
+      let m : 2 ^ 1126 ≤ size b = le-trans (le-of-eq (pow-add 2 52 1074)) (mul-le-mul g (pow-mono k)) in
+      rw bits-figure (figure-beyond (negative b) (halved (negative b) (size b * 200) (2 ^ 1074)) (far (negative b) (size b) m))

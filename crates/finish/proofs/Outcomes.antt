@@ -1,0 +1,105 @@
+-- The figure and the line, from the sum.
+use mathlib.Core.Path.{_≡_, refl, ap}
+use mathlib.Core.Bool.{Bool, true, false, cond}
+use mathlib.Core.List.{List, [], _∷_}
+use mathlib.Core.Option.{Option, none, some}
+use Prim.Native.Nat.{ℕ}
+use native.Mathlib.Nat.{lt-irrefl}
+use native.Mathlib.Omega.{arith}
+use lib.Dec.{T}
+use lib.IntN.{ℤ}
+use lib.Ieee.{Float}
+use lib.Ieee.Scale.{finite}
+use Rattle.refusal.specs.Outcome.{Outcome, accepted, refused, ground, outcome}
+use Rattle.record.specs.Sound.{sound}
+use Rattle.record.specs.Section.{Section, kept, sections, find}
+use Rattle.finish.specs.Sum.{nearestDouble, tooLarge}
+use Rattle.finish.specs.Figure.{beyond}
+use Rattle.finish.specs.Finish.{sumOf, figureFor, figureOf, lineFor, lineOf, finishing, sumOutcome, figureOutcome}
+use Rattle.finish.specs.Answer.{sumAnswer}
+use Rattle.finish.specs.Steps.{sumFor, FiniteSum, figureBy, lineBy}
+use Rattle.finish.specs.declared.SectionSum.{SectionSum}
+use Rattle.finish.specs.declared.SectionSum.the-variants.{Finite, Absent, TooLarge, NotSound}
+use Rattle.finish.proofs.Sums.{nearest-finite}
+
+-- two constructors are never equal
+pub never : {A : Type 0} → _≡_ {A = ℕ} 0 1 → A
+never e = absurd (lt-irrefl 0 (omega arith))
+
+-- ---- the sum
+
+pub sum-for : (s : Section) → sumAnswer (sumFor (kept s)) ≡ sumOf (some s)
+sum-for s = by (tooLarge (kept s))
+  where
+    by : (b : Bool) → sumAnswer (cond b TooLarge (Finite (nearestDouble (kept s)))) ≡ cond b (refused 14) (accepted (nearestDouble (kept s)))
+    by true = refl
+    by false = refl
+
+pub finite-for : (k : ℤ) → FiniteSum (sumFor k)
+finite-for k = by (tooLarge k) (nearest-finite k)
+  where
+    by : (b : Bool) → (b ≡ false → T (finite (nearestDouble k))) → FiniteSum (cond b TooLarge (Finite (nearestDouble k)))
+    by true h = tt
+    by false h = h refl
+
+-- a float that a sum gives is finite
+sum-finite : (o : Option Section) (x : Float) → accepted x ≡ sumOf o → T (finite x)
+sum-finite none x e = never (cc)
+sum-finite (some s) x e = by (tooLarge (kept s)) (nearest-finite (kept s)) e
+  where
+    by : (b : Bool) → (b ≡ false → T (finite (nearestDouble (kept s)))) → accepted x ≡ cond b (refused 14) (accepted (nearestDouble (kept s))) → T (finite x)
+    by true h e = never (cc)
+    by false h e = let q : x ≡ nearestDouble (kept s) = cc in rw q (h refl)
+
+pub finite-outcome : (a : SectionSum) (s : List ℕ) (g k : ℕ) → sumAnswer a ≡ sumOutcome s g k → FiniteSum a
+finite-outcome Absent s g k e = tt
+finite-outcome TooLarge s g k e = tt
+finite-outcome NotSound s g k e = tt
+finite-outcome (Finite x) s g k e = by (sound s g) e
+  where
+    by : (b : Bool) → accepted x ≡ cond b (sumOf (find k (sections s g))) (refused 7) → T (finite x)
+    by true e = sum-finite (find k (sections s g)) x e
+    by false e = never (cc)
+
+-- ---- the figure
+
+figure-by : (o : Option Section) → figureOf o ≡ figureBy (sumOf o)
+figure-by none = refl
+figure-by (some s) = by (tooLarge (kept s))
+  where
+    by : (b : Bool) → cond b (refused 14) (outcome (ground 15 (beyond (figureFor s)) ∷ []) (figureFor s)) ≡ figureBy (cond b (refused 14) (accepted (nearestDouble (kept s))))
+    by true = refl
+    by false = refl
+
+pub figure-outcome : (s : List ℕ) (g k : ℕ) → figureOutcome s g k ≡ figureBy (sumOutcome s g k)
+figure-outcome s g k = by (sound s g)
+  where
+    by : (b : Bool) → cond b (figureOf (find k (sections s g))) (refused 7) ≡ figureBy (cond b (sumOf (find k (sections s g))) (refused 7))
+    by true = figure-by (find k (sections s g))
+    by false = refl
+
+-- ---- the line
+
+pub line-by : (s : Section) → lineOf (some s) ≡ lineBy (s .key) (s .count) (sumOf (some s))
+line-by s = by (tooLarge (kept s))
+  where
+    by : (b : Bool) → cond b (refused 14) (outcome (ground 15 (beyond (figureFor s)) ∷ []) (lineFor s)) ≡ lineBy (s .key) (s .count) (cond b (refused 14) (accepted (nearestDouble (kept s))))
+    by true = refl
+    by false = refl
+
+-- a figure that is given, and one that is refused, with what is made of it
+pub given : {A : Type 0} (f : ℤ → A) (b : Bool) (x z : ℤ) → accepted z ≡ cond b (refused 15) (accepted x) → accepted (f z) ≡ cond b (refused 15) (accepted (f x))
+given f true x z e = never (cc)
+given f false x z e = let q : z ≡ x = cc in ap (λ (y : ℤ). accepted (f y)) q
+
+pub withheld : {A : Type 0} (a : A) (b : Bool) (x : ℤ) (n : ℕ) → refused n ≡ cond b (refused 15) (accepted x) → refused n ≡ cond b (refused 15) (accepted a)
+withheld a true x n e = let q : n ≡ 15 = cc in ap refused q
+withheld a false x n e = never (cc)
+
+-- ---- on a table
+
+pub at-section : {A : Type 0} (f : Option Section → Outcome A) (s : List ℕ) (g k : ℕ) (o : Option Section) → sound s g ≡ true → find k (sections s g) ≡ o → finishing f s g k ≡ f o
+at-section f s g k o h e = rw (h, e)
+
+pub not-sound : {A : Type 0} (f : Option Section → Outcome A) (s : List ℕ) (g k : ℕ) → sound s g ≡ false → finishing f s g k ≡ refused 7
+not-sound f s g k h = rw h

@@ -1,0 +1,86 @@
+-- The answer that a sign and 63 bits stand for, and that of a kept value.
+use mathlib.Core.Path.{_≡_, refl, sym, ap, _∙_}
+use mathlib.Core.Logic.{_↔_, ⊎-elim}
+use mathlib.Core.Bool.{Bool, true, false, not, cond}
+use Prim.Native.Nat.{ℕ, _+_, _*_, _%_, _^_, _≤_, _<_}
+use native.Mathlib.Nat.{add-comm, zero-add}
+use native.Mathlib.Omega.{arith}
+use borrow.Author.Tests.{lt-leb, le-leb, leb-true, leb-false}
+use lib.Dec.{T}
+use lib.Arith.{le→nltb}
+use lib.Signed.{nonNeg}
+use lib.IntN.{ℤ, pos, natAbs}
+use lib.Ieee.{inf, binary64, ofBits, nanBits, size, round}
+use lib.Ieee.Bits.{nanBits-above}
+use lib.Ieee.Scale.{finite}
+use Rattle.finish.specs.Sum.{limit, nearestDouble, tooLarge}
+use Rattle.finish.specs.Steps.{sumFor}
+use Rattle.finish.specs.Limbs.{pattern, made}
+use Rattle.finish.specs.declared.SectionSum.the-variants.{Finite, TooLarge}
+use Rattle.finish.proofs.Pattern.{le-or-lt, limit-number, limit-infinite, limit-finite, limit-inf, inf-limit, pattern-value}
+
+-- ---- bits that are no NaN's
+
+no-nan : (n : ℕ) → n % 2 ^ 63 ≤ 2047 * 2 ^ 52 → T (not (nanBits binary64 n))
+no-nan n h = rw (nanBits-above binary64 n) (le→nltb (2047 * 2 ^ 52) (n % 2 ^ 63) h)
+
+pub plain-number : (n : ℕ) → n < 2047 * 2 ^ 52 → T (not (nanBits binary64 n))
+plain-number n h = no-nan n (omega arith)
+
+pub negative-number : (n : ℕ) → n < 2047 * 2 ^ 52 → T (not (nanBits binary64 (n + 2 ^ 63)))
+negative-number n h = no-nan (n + 2 ^ 63) (omega arith)
+
+-- ---- the answer of bits
+
+pub made-large : (n : ℕ) (s : Bool) → 2047 * 2 ^ 52 ≤ n → TooLarge ≡ made n s
+made-large n s h = rw (le-leb (2047 * 2 ^ 52) n h)
+
+made-finite : (n : ℕ) (s : Bool) → n < 2047 * 2 ^ 52 → Finite (ofBits binary64 (cond s (2 ^ 63) 0 + n)) ≡ made n s
+made-finite n s h = rw (lt-leb (2047 * 2 ^ 52) n h)
+
+pub made-negative : (n : ℕ) (s : Bool) → n < 2047 * 2 ^ 52 → s ≡ true → Finite (ofBits binary64 (n + 2 ^ 63)) ≡ made n s
+made-negative n s h e = ap (λ (x : ℕ). Finite (ofBits binary64 x)) (add-comm n (2 ^ 63) ∙ ap (λ (t : Bool). cond t (2 ^ 63) 0 + n) (sym e)) ∙ made-finite n s h
+
+pub made-positive : (n : ℕ) (s : Bool) → n < 2047 * 2 ^ 52 → s ≡ false → Finite (ofBits binary64 n) ≡ made n s
+made-positive n s h e = ap (λ (x : ℕ). Finite (ofBits binary64 x)) (sym (zero-add n) ∙ ap (λ (t : Bool). cond t (2 ^ 63) 0 + n) (sym e)) ∙ made-finite n s h
+
+-- ---- the answer of a kept value
+
+pub answer : (k : ℤ) → made (pattern (natAbs k)) (not (nonNeg k)) ≡ sumFor k
+unfolding tooLarge nearestDouble
+answer k = ⊎-elim (λ h. large h) (λ h. small h) (le-or-lt limit (natAbs k))
+  where
+    large : limit ≤ natAbs k → made (pattern (natAbs k)) (not (nonNeg k)) ≡ sumFor k
+    large h = sym (made-large (pattern (natAbs k)) (not (nonNeg k)) (limit-infinite (natAbs k) h)) ∙ rw (le-leb limit (natAbs k) h)
+
+    small : natAbs k < limit → made (pattern (natAbs k)) (not (nonNeg k)) ≡ sumFor k
+    small h =
+        let f = limit-finite (natAbs k) h in
+        sym (made-finite (pattern (natAbs k)) (not (nonNeg k)) f) ∙ ap Finite (pattern-value (not (nonNeg k)) (natAbs k) f) ∙ rw (lt-leb limit (natAbs k) h)
+
+zero-made : made (pattern 0) false ≡ Finite (ofBits binary64 0)
+unfolding size
+zero-made = refl
+
+-- a kept value of 0 gives +0
+pub answer-zero : (k : ℤ) → natAbs k ≡ 0 → not (nonNeg k) ≡ false → Finite (ofBits binary64 0) ≡ sumFor k
+answer-zero k e f = sym (ap (λ (n : ℕ). made (pattern n) (not (nonNeg k))) e ∙ ap (λ (s : Bool). made (pattern 0) s) f ∙ zero-made) ∙ answer k
+
+-- the sum of a kept value that is not too large is a finite float
+pub nearest-finite : (k : ℤ) → tooLarge k ≡ false → T (finite (nearestDouble k))
+unfolding tooLarge nearestDouble
+nearest-finite k e = limit-number (not (nonNeg k)) (natAbs k) (leb-false limit (natAbs k) e)
+
+-- ---- too large is where rounding gives an infinity
+
+pub too-large-infinite : (k : ℤ) → (tooLarge k ≡ true) ↔ (nearestDouble k ≡ inf (not (nonNeg k)))
+unfolding tooLarge nearestDouble
+too-large-infinite k = (
+  λ e. limit-inf (not (nonNeg k)) (natAbs k) (leb-true limit (natAbs k) e),
+  λ e. le-leb limit (natAbs k) (inf-limit (not (nonNeg k)) (not (nonNeg k)) (natAbs k) e),
+)
+
+-- a kept value of 0 has the sum +0
+pub nearest-zero : nearestDouble (pos 0) ≡ ofBits binary64 0
+unfolding nearestDouble round ofBits
+nearest-zero = refl

@@ -1,0 +1,75 @@
+use mathlib.Core.Path.{_≡_, sym, ap, ap₂, _∙_, subst}
+use mathlib.Core.Bool.{Bool, cond}
+use Prim.Native.Nat.{ℕ, _+_, _-_}
+use native.Mathlib.Nat.{lt-of-lt-of-le, lt-of-le-of-lt, le-of-eq}
+use lib.Dec.{T}
+use lib.IntN.{ℤ}
+use lib.Ieee.{binary64, toBits, fits}
+use Rattle.refusal.specs.Outcome.{accepted, refused}
+use Rattle.level.specs.Double.{field, significand, negative, signed}
+use Rattle.finish.specs.Figure.{millFigure, beyond}
+use Rattle.finish.specs.Limbs.{hundredths}
+use Rattle.finish.proofs.Fraction.{number, near-figure, far-figure}
+use Rattle.level.proofs.Double.{significand-lt}
+use borrow.Author.Needs.{needs}
+use Rattle.finish.proofs.figure_of.Statement.{statement}
+use Rattle.finish.proofs.figure_of.Tie as tie
+
+holds : (c : tie.Start) → T (fits binary64 (c .args .sum))
+holds c = subst (λ (b : Bool). T b) (sym (c .good .0 .1)) tt
+
+float-to-bits-bits : tie.Need-float-to-bits-bits
+float-to-bits-bits c = number (c .args .sum) (c .pre)
+
+exponent-field-requires : tie.Need-exponent-field-requires
+exponent-field-requires c κs = search needs
+
+returns : tie.Need-returns
+returns c =
+    let s = c .before .before in
+    far-figure (s .args .sum) (holds s) (s .pre) (lt-of-lt-of-le (c .if1 .taken) (le-of-eq (c .before .exponent-field .ensures)))
+
+is-negative-requires : tie.Need-is-negative-requires
+is-negative-requires c κs = search needs
+
+digits-requires : tie.Need-digits-requires
+digits-requires c κs = search needs
+
+places-requires : tie.Need-places-requires
+places-requires c κs = search needs
+
+nearest-hundredths-requires : tie.Need-nearest-hundredths-requires
+nearest-hundredths-requires c κs =
+    let b = toBits binary64 (c .before .before .before .before .before .args .sum) in
+    (lt-of-le-of-lt (le-of-eq (c .before .digits .ensures)) (significand-lt b), c .places .ensures .1)
+
+figure-of-size-requires : tie.Need-figure-of-size-requires
+figure-of-size-requires c κs = search needs
+
+returns-2 : tie.Need-returns-2
+returns-2 c =
+    let n = c .before .nearest-hundredths in
+    let p = c .before .before .places in
+    let d = c .before .before .before .digits in
+    let g = c .before .before .before .before .is-negative in
+    let f = c .before .before .before .before .before .before .exponent-field in
+    let s = c .before .before .before .before .before .before .before in
+    let b = toBits binary64 (s .args .sum) in
+    let size : n .result ≡ hundredths (significand b) (p .result) (negative b) = n .ensures ∙ ap₂ (λ (m : ℕ) (t : Bool). hundredths m (p .result) t) (d .ensures) (g .ensures) in
+    let places : p .result + (field b - 1) ≡ 1074 = ap (λ (x : ℕ). p .result + (x - 1)) (sym (f .ensures)) ∙ p .ensures .0 in
+    let e : signed (g .result) (n .result) ≡ millFigure (s .args .sum) = ap₂ (λ (t : Bool) (m : ℕ). signed t m) (g .ensures) size ∙ near-figure (s .args .sum) (holds s) (s .pre) (p .result) places (p .ensures .1) in
+    c .figure-of-size .ensures ∙ ap (λ (z : ℤ). cond (beyond z) (refused 15) (accepted z)) e
+
+pub figure-of-spec : {M : Type 1} → statement M
+figure-of-spec =
+    tie.close
+    (tie.spec
+    float-to-bits-bits
+    exponent-field-requires
+    returns
+    is-negative-requires
+    digits-requires
+    places-requires
+    nearest-hundredths-requires
+    figure-of-size-requires
+    returns-2)

@@ -1,0 +1,56 @@
+use mathlib.Core.Path.{sym, ap, _∙_, subst}
+use Rattle.finish.specs.Answer.{sumAnswer}
+use Rattle.finish.specs.Steps.{FiniteSum, lineBy}
+use Rattle.finish.specs.declared.SectionSum.{SectionSum}
+use borrow.Author.Needs.{needs}
+use Rattle.finish.proofs.line_by.Statement.{statement}
+use Rattle.finish.proofs.line_by.Tie as tie
+
+enum-known-sum : tie.Need-enum-known-sum
+enum-known-sum c = search needs
+
+line-of-requires : tie.Need-line-of-requires
+line-of-requires c κs = subst FiniteSum (c .before .sum .given .1) (c .before .before .before .pre)
+
+enum-told : tie.Need-enum-told
+enum-told c = search needs
+
+enum-told-2 : tie.Need-enum-told-2
+enum-told-2 c = search needs
+
+enum-told-3 : tie.Need-enum-told-3
+enum-told-3 c = search needs
+
+returns : tie.Need-returns
+returns c =
+    let a = c .before .before .before .before .args in
+    c .line-of .ensures ∙ sym (ap (λ (t : SectionSum). lineBy (a .key) (a .count) (sumAnswer t)) (c .before .before .sum .given .1))
+
+returns-2 : tie.Need-returns-2
+returns-2 c =
+    let a = c .before .before .args in
+    sym (ap (λ (t : SectionSum). lineBy (a .key) (a .count) (sumAnswer t)) (c .enum-told .given .1))
+
+returns-3 : tie.Need-returns-3
+returns-3 c =
+    let a = c .before .before .args in
+    sym (ap (λ (t : SectionSum). lineBy (a .key) (a .count) (sumAnswer t)) (c .enum-told2 .given .1))
+
+returns-4 : tie.Need-returns-4
+returns-4 c =
+    let a = c .before .before .args in
+    sym (ap (λ (t : SectionSum). lineBy (a .key) (a .count) (sumAnswer t)) (c .enum-told3 .given .1))
+
+pub line-by-spec : {M : Type 1} → statement M
+line-by-spec =
+    tie.close
+    (tie.spec
+    enum-known-sum
+    line-of-requires
+    enum-told
+    enum-told-2
+    enum-told-3
+    returns
+    returns-2
+    returns-3
+    returns-4)

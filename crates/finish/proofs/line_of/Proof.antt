@@ -1,0 +1,38 @@
+use Rattle.finish.proofs.Outcomes.{given, withheld}
+use mathlib.Core.Path.{sym, ap, _∙_}
+use lib.IntN.{ℤ}
+use mir.Syntax.{w32}
+use mir.Facts.{toZ-ofZ}
+use Rattle.refusal.specs.Outcome.{accepted}
+use Rattle.finish.specs.Figure.{millFigure, beyond}
+use Rattle.finish.specs.Answer.{figureAnswer}
+use Rattle.finish.specs.declared.FinishedLine.{FinishedLine}
+use borrow.Author.Needs.{needs}
+use Rattle.finish.proofs.line_of.Statement.{statement}
+use Rattle.finish.proofs.line_of.Tie as tie
+
+figure-of-requires : tie.Need-figure-of-requires
+figure-of-requires c κs = search needs
+
+enum-known-figure : tie.Need-enum-known-figure
+enum-known-figure c = search needs
+
+enum-known-r : tie.Need-enum-known-r
+enum-known-r c = search needs
+
+returns : tie.Need-returns
+returns c =
+    let a = c .before .before .before .before .args in
+    let f : ℤ → FinishedLine = λ z. record { key = a .key; count = a .count; sum = a .sum; figure = z } in
+    let back = toZ-ofZ {w = w32} {z = c .before .figure .given .0 .0} (record { sfits = c .known-told .given .0 .1 }) in
+    ap (λ (z : ℤ). accepted (f z)) back
+    ∙ given f (beyond (millFigure (a .sum))) (millFigure (a .sum)) (c .before .figure .given .0 .0) (sym (ap figureAnswer (c .before .figure .given .1)) ∙ c .before .before .before .figure-of .ensures)
+
+returns-2 : tie.Need-returns-2
+returns-2 c =
+    let a = c .before .before .before .before .args in
+    withheld (record { key = a .key; count = a .count; sum = a .sum; figure = millFigure (a .sum) }) (beyond (millFigure (a .sum))) (millFigure (a .sum)) _ (sym (ap figureAnswer (c .before .r .given .1)) ∙ c .before .before .before .figure-of .ensures)
+
+pub line-of-spec : {M : Type 1} → statement M
+line-of-spec =
+    tie.close (tie.spec figure-of-requires enum-known-figure enum-known-r returns returns-2)

@@ -1,0 +1,24 @@
+use native.Mathlib.Omega.{arith}
+use mathlib.Core.Path.{refl}
+use lib.Dec.{lit≤}
+use native.Mathlib.Nat.{lt-of-lt-of-le}
+use Rattle.finish.proofs.Whole.{carry-fits, carry-read, carry-back}
+use Rattle.finish.proofs.raised_carry.Statement.{statement}
+use Rattle.finish.proofs.raised_carry.Tie as tie
+
+plus-requires : tie.Need-plus-requires
+plus-requires c κs = rw (carry-back (c .args .c) (c .pre)) (omega arith)
+
+cast-result : tie.Need-cast-result
+cast-result c =
+    let z = c .before .args .c in
+    let f = carry-fits z (c .before .pre) in
+    rw (carry-read z (c .plus .result) (c .before .pre) (c .plus .ensures)) (f .0, record { fits = lt-of-lt-of-le (f .1) (lit≤ tt) })
+
+returns : tie.Need-returns
+returns c =
+    let z = c .before .args .c in
+    rw (carry-read z (c .plus .result) (c .before .pre) (c .plus .ensures)) (refl, carry-fits z (c .before .pre) .1)
+
+pub raised-carry-spec : {M : Type 1} → statement M
+raised-carry-spec = tie.close (tie.spec plus-requires cast-result returns)

@@ -1,0 +1,26 @@
+-- The answers of finishing: document 01's number and values for each case.
+use lib.IntN.{ℤ}
+use lib.Ieee.{Float}
+use Rattle.refusal.specs.Outcome.{Outcome, accepted, refused}
+use Rattle.refusal.specs.Number.{numberOf}
+use Rattle.finish.specs.declared.SectionSum.{SectionSum}
+use Rattle.finish.specs.declared.SectionSum.the-variants.{Finite, Absent, TooLarge, NotSound}
+use Rattle.finish.specs.declared.FigureAnswer.{FigureAnswer}
+use Rattle.finish.specs.declared.FigureAnswer.the-variants as figures
+use Rattle.finish.specs.declared.FinishedLine.{FinishedLine}
+use Rattle.finish.specs.declared.LineAnswer.{LineAnswer}
+use Rattle.finish.specs.declared.LineAnswer.the-variants as lines
+
+abbrev pub sumAnswer : SectionSum → Outcome Float
+sumAnswer (Finite x) = accepted x
+sumAnswer Absent = refused 13
+sumAnswer TooLarge = refused 14
+sumAnswer NotSound = refused 7
+
+abbrev pub figureAnswer : FigureAnswer → Outcome ℤ
+figureAnswer (figures.Figure z) = accepted z
+figureAnswer (figures.Refused r) = refused (numberOf r)
+
+abbrev pub lineAnswer : LineAnswer → Outcome FinishedLine
+lineAnswer (lines.Line l) = accepted l
+lineAnswer (lines.Refused r) = refused (numberOf r)

@@ -1,0 +1,19 @@
+-- The mill figure of a sum.
+use Prim.Native.Nat.{_+_, _*_}
+use mathlib.Core.Bool.{Bool}
+use lib.Dec.{ltb}
+use lib.IntN.{ℤ, pos, natAbs, _+ℤ_}
+use lib.Signed.{shrZ}
+use lib.Ieee.{Float, nan, inf, fin, up, down}
+use Rattle.level.specs.Double.{signed}
+
+-- floor (100 x + 1/2): the whole number nearest to 100 x, an exact half going up. `fin s m e` is m × up e / down e with the sign s, and `shrZ`
+-- rounds down; no figure is asked of a NaN or an infinity.
+unfoldable pub millFigure : Float → ℤ
+millFigure nan = pos 0
+millFigure (inf s) = pos 0
+millFigure (fin s m e) = shrZ (signed s (m * up e * 200) +ℤ pos (down e)) (down e + down e)
+
+-- whether a figure is beyond 2,147,483,647 in size
+unfoldable pub beyond : ℤ → Bool
+beyond z = ltb 2147483647 (natAbs z)

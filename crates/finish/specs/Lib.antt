@@ -1,0 +1,7 @@
+-- The definitions that the contracts cite.
+pub mod Sum
+pub mod Figure
+pub mod Finish
+pub mod Answer
+pub mod Limbs
+pub mod Steps

@@ -1,0 +1,46 @@
+-- What the steps from a table to an answer promise each other.
+use Prim.Native.Nat.{ℕ}
+use mathlib.Core.Path.{_≡_}
+use mathlib.Core.Bool.{true, false, cond}
+use mathlib.Core.List.{List}
+use mathlib.Core.Option.{none, some}
+use lib.Dec.{T}
+use lib.IntN.{ℤ}
+use lib.Ieee.{Float}
+use lib.Ieee.Scale.{finite}
+use Rattle.refusal.specs.Outcome.{Outcome, accepted, refused}
+use Rattle.record.specs.Sound.{sound, soundRecord}
+use Rattle.record.specs.Section.{meaning, sections, find}
+use Rattle.finish.specs.Sum.{nearestDouble, tooLarge}
+use Rattle.finish.specs.Figure.{millFigure, beyond}
+use Rattle.finish.specs.declared.SectionSum.{SectionSum}
+use Rattle.finish.specs.declared.SectionSum.the-variants.{Finite, Absent, TooLarge, NotSound}
+use Rattle.finish.specs.declared.Lookup.{Lookup}
+use Rattle.finish.specs.declared.Lookup.the-variants as lookups
+use Rattle.finish.specs.declared.FinishedLine.{FinishedLine}
+
+-- what a lookup of section k says of a table
+abbrev pub LookedUp : Lookup → List ℕ → ℕ → ℕ → Type 0
+LookedUp (lookups.Found r) s g k = (sound s g ≡ true) × (find k (sections s g) ≡ some (meaning r)) × T (soundRecord r)
+LookedUp lookups.Missing s g k = (sound s g ≡ true) × (find k (sections s g) ≡ none)
+LookedUp lookups.Unsound s g k = sound s g ≡ false
+
+-- the answer for a kept value
+abbrev pub sumFor : ℤ → SectionSum
+sumFor k = cond (tooLarge k) TooLarge (Finite (nearestDouble k))
+
+-- a sum that is no infinity and no NaN
+abbrev pub FiniteSum : SectionSum → Type 0
+FiniteSum (Finite x) = T (finite x)
+FiniteSum Absent = Unit
+FiniteSum TooLarge = Unit
+FiniteSum NotSound = Unit
+
+-- the figure and the line, by the sum's outcome
+abbrev pub figureBy : Outcome Float → Outcome ℤ
+figureBy (accepted x) = cond (beyond (millFigure x)) (refused 15) (accepted (millFigure x))
+figureBy (refused n) = refused n
+
+abbrev pub lineBy : ℕ → ℕ → Outcome Float → Outcome FinishedLine
+lineBy k n (accepted x) = cond (beyond (millFigure x)) (refused 15) (accepted (record { key = k; count = n; sum = x; figure = millFigure x }))
+lineBy k n (refused m) = refused m
