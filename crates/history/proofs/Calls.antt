@@ -1,11 +1,10 @@
 -- Calls on tables that hold rows: what they leave and answer is read off the rows; and so after every list of calls.
 use Prim.Native.Nat.{ℕ, _≤_}
 use mathlib.Core.Path.{_≡_, refl, sym, _∙_, ap, ap₂, subst, fun-ext}
-use mathlib.Core.Bool.{Bool, true, false, not, cond}
+use mathlib.Core.Bool.{Bool, true, false, not}
 use mathlib.Core.List.{List, [], _∷_, _++_}
 use native.Mathlib.Decide.{ℕ-discrete}
 use borrow.Author.Tests.{eq-eqb, ne-eqb}
-use lib.Dec.{eqb}
 use lib.ListN.{length}
 use Rattle.refusal.specs.Outcome.{Outcome, accepted, refused, Ground, outcome}
 use Rattle.patch.specs.Rows.{Row, rowsOf}
@@ -17,10 +16,12 @@ use Rattle.table.proofs.Bytes.{written-over}
 use Rattle.history.specs.Rows.{bitsOf, keysOf}
 use Rattle.history.specs.Canonical.{sectionIf, canonical}
 use Rattle.history.specs.Calls.{Call, add, merge, sum, figure, line, lendsBytes, addRowsGrounds, addRowsOutcome, mergeRowsGrounds, mergeRowsOutcome, brought, put, stepRows, rowsAfter}
-use Rattle.history.specs.Run.{Store, after, afterAdd, afterMerge, step, tablesAfter, groupsAre, sumIs, figureIs, lineIs, answer, answers, answerRows, answersRows, isRefusal, refuses}
+use Rattle.history.specs.Run.{Store, after, afterAdd, afterMerge, step, tablesAfter, groupsAre, sumIs, figureIs, lineIs, answer, answers, answerRows, answersRows, refuses}
 use Rattle.history.proofs.Canonical.{find-canonical, added-canonical, merged-canonical}
 use Rattle.history.proofs.Fit.{RowsFit, few-canonical, length-canonical, room-canonical, sections-held, length-held, sound-held, accepted-none, add-fit, merge-fit}
-use Rattle.history.proofs.Finishing.{sum-found, figure-found, line-found, sum-not-7, figure-not-7, line-not-7}
+use Rattle.history.proofs.Finishing.{finishing-found, not-given, sum-not-7, figure-not-7, line-not-7}
+use Rattle.finish.specs.Finish.{finishing, sumOf, figureOf, lineOf}
+use mathlib.Core.Option.{Option}
 
 -- the table of some rows, in a buffer that held other bytes before
 abbrev pub holding : List ℕ → List Row → Store
@@ -129,16 +130,19 @@ module _ (start : ℕ → List ℕ) where
   step-is s (figure i k) f = refl
   step-is s (line i k) f = refl
 
+  finishing-is : {A : Type 0} (F : Option Section → Outcome A) (s : ℕ → List Row) (i k : ℕ) → AllFit s
+      → finishing F (tables s i .bytes) (tables s i .groups) k ≡ F (sectionIf k (bitsOf k (s i)))
+  finishing-is F s i k f =
+      finishing-found F (tables s i .bytes) (tables s i .groups) k (sound-held (start i) (s i) (f i))
+      ∙ rw (sections-held (start i) (s i) (f i), find-canonical k (s i))
+
   answer-is : (s : ℕ → List Row) (c : Call) → AllFit s → answer (tables s) c ≡ answerRows lens s c
   unfolding answer answerRows
   answer-is s (add i ks vs work) f = ap groupsAre (add-outcome (start i) (s i) (f i) ks vs work)
   answer-is s (merge i j d) f = ap groupsAre (merge-outcome (start i) (s i) (f i) (start j) (s j) (f j))
-  answer-is s (sum i k) f =
-      ap sumIs (sum-found _ _ k (sound-held (start i) (s i) (f i)) ∙ rw (sections-held (start i) (s i) (f i), find-canonical k (s i)))
-  answer-is s (figure i k) f =
-      ap figureIs (figure-found _ _ k (sound-held (start i) (s i) (f i)) ∙ rw (sections-held (start i) (s i) (f i), find-canonical k (s i)))
-  answer-is s (line i k) f =
-      ap lineIs (line-found _ _ k (sound-held (start i) (s i) (f i)) ∙ rw (sections-held (start i) (s i) (f i), find-canonical k (s i)))
+  answer-is s (sum i k) f = ap sumIs (finishing-is sumOf s i k f)
+  answer-is s (figure i k) f = ap figureIs (finishing-is figureOf s i k f)
+  answer-is s (line i k) f = ap lineIs (finishing-is lineOf s i k f)
 
   abbrev AllLent : List Call → Type 0
   AllLent cs = All (λ (c : Call). not (lendsBytes c) ≡ false) cs
@@ -162,16 +166,6 @@ module _ (start : ℕ → List ℕ) where
       (ap (λ (t : ℕ → Store). answers t cs) (step-is s c f) ∙ answers-are (stepRows lens s c) cs (h .1) (step-fit s c (h .0) f))
 
 -- ---- no answer is 7
-
--- a number that no ground has is not given
-not-given : {A : Type 0} (n : ℕ) (gs : List Ground) (x : A) → All (λ (c : Ground). eqb n (c .number) ≡ false) gs → isRefusal n (outcome gs x) ≡ false
-unfolding isRefusal
-not-given n [] x a = refl
-not-given n (c ∷ cs) x a = go (not-given n cs x (a .1)) (c .holds)
-  where
-    go : isRefusal n (outcome cs x) ≡ false → (b : Bool) → isRefusal n (cond b (refused (c .number)) (outcome cs x)) ≡ false
-    go ih true = a .0
-    go ih false = ih
 
 answer-not-7 : (len : ℕ → ℕ) (s : ℕ → List Row) (c : Call) → refuses 7 (answerRows len s c) ≡ false
 unfolding answerRows addRowsGrounds mergeRowsGrounds

@@ -3,26 +3,27 @@ use Prim.Native.Nat.{ℕ, _*_, _<_}
 use mathlib.Core.Path.{_≡_, refl, sym, _∙_, ap}
 use mathlib.Core.Bool.{true, false, not}
 use mathlib.Core.List.{List, [], _∷_}
-use mathlib.Core.Option.{none, some}
+use mathlib.Core.Option.{Option, none, some}
 use native.Mathlib.Omega.{arith}
 use lib.ListN.{length, drop}
 use lib.Seq.{take-at}
 use Rattle.codec.specs.Cells.{image}
+use Rattle.refusal.specs.Outcome.{Outcome}
 use Rattle.record.specs.Sound.{sound}
 use Rattle.record.specs.Section.{Section, sectionBytes, find}
-use Rattle.finish.specs.Finish.{sumOf, figureOf, lineOf, sumOutcome, figureOutcome, lineOutcome}
+use Rattle.finish.specs.Finish.{finishing, sumOf, figureOf, lineOf}
 use Rattle.table.specs.Calls.{anyOf}
 use Rattle.table.proofs.Lists.{All, any-false}
 use Rattle.table.proofs.Bytes.{length-sectionBytes}
 use Rattle.history.specs.Rows.{SameRows, bitsOf, keysOf}
 use Rattle.history.specs.Canonical.{sectionOf, sectionIf, canonical}
 use Rattle.history.specs.Calls.{Call, lendsBytes}
-use Rattle.history.specs.Run.{Store, refuses}
+use Rattle.history.specs.Run.{Store, sumIn, figureIn, lineIn, refuses}
 use Rattle.history.specs.Demand3.{History, noRows, lengths, rows, table, used, sectionsIn, Demand3}
 use Rattle.history.proofs.Canonical.{find-canonical}
 use Rattle.history.proofs.Order.{canonical-same}
 use Rattle.history.proofs.Near.{near}
-use Rattle.history.proofs.Finishing.{sum-found, figure-found, line-found}
+use Rattle.history.proofs.Finishing.{finishing-found}
 use Rattle.history.proofs.Fit.{RowsFit, none-fit, sections-held, sound-held}
 use Rattle.history.proofs.Calls.{holding, tables-after, fit-after, answers-are, answers-not-7}
 
@@ -56,14 +57,8 @@ module _ (h : History) where
     found-is : (k : ℕ) → find k (sectionsIn (table h i)) ≡ sectionIf k (bitsOf k (rows h i))
     found-is k = ap (find k) sections-are ∙ find-canonical k (rows h i)
 
-    sum-is : (k : ℕ) → sumOutcome (table h i .bytes) (table h i .groups) k ≡ sumOf (find k (canonical (rows h i)))
-    sum-is k = sum-found (table h i .bytes) (table h i .groups) k sound-is ∙ ap (λ (ts : List Section). sumOf (find k ts)) sections-are
-
-    figure-is : (k : ℕ) → figureOutcome (table h i .bytes) (table h i .groups) k ≡ figureOf (find k (canonical (rows h i)))
-    figure-is k = figure-found (table h i .bytes) (table h i .groups) k sound-is ∙ ap (λ (ts : List Section). figureOf (find k ts)) sections-are
-
-    line-is : (k : ℕ) → lineOutcome (table h i .bytes) (table h i .groups) k ≡ lineOf (find k (canonical (rows h i)))
-    line-is k = line-found (table h i .bytes) (table h i .groups) k sound-is ∙ ap (λ (ts : List Section). lineOf (find k ts)) sections-are
+    finishing-is : {A : Type 0} (F : Option Section → Outcome A) (k : ℕ) → finishing F (table h i .bytes) (table h i .groups) k ≡ F (find k (canonical (rows h i)))
+    finishing-is F k = finishing-found F (table h i .bytes) (table h i .groups) k sound-is ∙ ap (λ (ts : List Section). F (find k ts)) sections-are
 
     present-is : (k : ℕ) (bs : List ℕ) → 0 < length bs → sectionIf k bs ≡ some (sectionOf k bs)
     unfolding sectionIf
@@ -95,12 +90,12 @@ demand3 = record {
       ∙ answers-not-7 (lengths h) noRows (h .calls);
   same-groups = alike (λ t. t .groups) length groups-are;
   same-bytes = alike used sectionBytes used-are;
-  same-sum = λ h h′ i j k. alike (λ t. sumOutcome (t .bytes) (t .groups) k) (λ ts. sumOf (find k ts)) (λ h i. sum-is h i k) h h′ i j;
-  same-figure = λ h h′ i j k. alike (λ t. figureOutcome (t .bytes) (t .groups) k) (λ ts. figureOf (find k ts)) (λ h i. figure-is h i k) h h′ i j;
-  same-line = λ h h′ i j k. alike (λ t. lineOutcome (t .bytes) (t .groups) k) (λ ts. lineOf (find k ts)) (λ h i. line-is h i k) h h′ i j;
-  fixed-sum = sum-is;
-  fixed-figure = figure-is;
-  fixed-line = line-is;
+  same-sum = λ h h′ i j k. alike (λ t. sumIn t k) (λ ts. sumOf (find k ts)) (λ h i. finishing-is h i sumOf k) h h′ i j;
+  same-figure = λ h h′ i j k. alike (λ t. figureIn t k) (λ ts. figureOf (find k ts)) (λ h i. finishing-is h i figureOf k) h h′ i j;
+  same-line = λ h h′ i j k. alike (λ t. lineIn t k) (λ ts. lineOf (find k ts)) (λ h i. finishing-is h i lineOf k) h h′ i j;
+  fixed-sum = λ h i. finishing-is h i sumOf;
+  fixed-figure = λ h i. finishing-is h i figureOf;
+  fixed-line = λ h i. finishing-is h i lineOf;
   absent = λ h i k e. found-is h i k ∙ absent-is h i k (bitsOf k (rows h i)) e;
   present = λ h i k l. (
     sectionOf k (bitsOf k (rows h i)),

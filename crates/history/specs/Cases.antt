@@ -8,7 +8,11 @@ use Rattle.codec.specs.Cells.{cells, image}
 use Rattle.refusal.specs.Outcome.{accepted, refused}
 use Rattle.level.specs.Level.{topFrom, top, given, contribution, topOf, total}
 use Rattle.patch.specs.Rows.{Row, rowsFrom, columnsFit, rowsOf}
-use Rattle.record.specs.Section.{Section, sections, written}
+use Rattle.record.specs.Section.{Section, sections, written, find, kept}
+use Rattle.finish.specs.Sum.{tooLarge, nearestDouble}
+use Rattle.finish.specs.Figure.{millFigure, beyond}
+use lib.Ieee.{binary64, ofBits, round}
+use lib.IntN.{pos}
 use Rattle.record.specs.Layout.{encode, decode}
 use Rattle.record.specs.Keys.{rising}
 use Rattle.record.specs.Sound.{soundHeld, isZero, soundRecord, soundRecords, sound}
@@ -16,9 +20,9 @@ use Rattle.table.specs.Combine.{ofRow, levelOf, combine, absorb, merged, added}
 use Rattle.table.specs.Calls.{anyOf, addGrounds, mergeGrounds}
 use Rattle.history.specs.Rows.{bitsOf, insertKey, keysOf}
 use Rattle.history.specs.Canonical.{sectionOf, canonical}
-use Rattle.history.specs.Calls.{Call, add, merge, tooManyRows, tooManyKeys, addRowsGrounds, mergeRowsGrounds, stepRows, rowsAfter}
+use Rattle.history.specs.Calls.{Call, add, merge, sum, figure, line, tooManyRows, tooManyKeys, addRowsGrounds, mergeRowsGrounds, stepRows, rowsAfter}
 use Rattle.history.specs.Demand3.{History}
-use Rattle.history.specs.Run.{Store, groupsAre, step, tablesAfter, answer, answers}
+use Rattle.history.specs.Run.{Store, groupsAre, sumIs, figureIs, lineIs, step, tablesAfter, answer, answers}
 
 -- tables in buffers of 128 bytes: room for two sections
 abbrev first : List ℕ
@@ -81,3 +85,9 @@ numbers : answers start (refusedAdd ∷ addTo 0 (7 ∷ 3 ∷ []) (1 ∷ 2 ∷ []
     ≡ groupsAre (refused 9) ∷ groupsAre (accepted 2) ∷ groupsAre (refused 12) ∷ groupsAre (refused 10) ∷ []
 unfolding left
 numbers = refl
+
+-- B10 in a table: 2^60, 1 and -2^60 sum to 1; mill figure 100; section 8 is absent
+finished : answers start (addTo 0 (7 ∷ 7 ∷ 7 ∷ []) (0x43B0000000000000 ∷ 0x3FF0000000000000 ∷ 0xC3B0000000000000 ∷ []) ∷ sum 0 7 ∷ figure 0 7 ∷ line 0 8 ∷ [])
+    ≡ groupsAre (accepted 1) ∷ sumIs (accepted (ofBits binary64 0x3FF0000000000000)) ∷ figureIs (accepted (pos 100)) ∷ lineIs (refused 13) ∷ []
+unfolding left find kept tooLarge nearestDouble millFigure beyond ofBits round
+finished = refl

@@ -10,12 +10,12 @@ use Rattle.level.specs.Level.{exactSum}
 use Rattle.patch.specs.Rows.{Row}
 use Rattle.record.specs.Sound.{sound}
 use Rattle.record.specs.Section.{Section, sections, written, find, kept}
-use Rattle.finish.specs.Finish.{sumOf, figureOf, lineOf, sumOutcome, figureOutcome, lineOutcome}
+use Rattle.finish.specs.Finish.{sumOf, figureOf, lineOf}
 use Rattle.table.specs.Calls.{anyOf}
 use Rattle.history.specs.Rows.{SameRows, bitsOf, largest}
 use Rattle.history.specs.Canonical.{canonical}
 use Rattle.history.specs.Calls.{Call, lendsBytes, rowsAfter}
-use Rattle.history.specs.Run.{Store, tablesAfter, answers, answersRows, refuses}
+use Rattle.history.specs.Run.{Store, sumIn, figureIn, lineIn, tablesAfter, answers, answersRows, refuses}
 
 -- a way of working: the bytes in each table's buffer at the start, and the calls
 pub record History : Type 0 where
@@ -60,16 +60,13 @@ pub record Demand3 : Type 0 where
   -- tables with the same rows, after any two ways of working, have the same group count, used bytes, sums, mill figures and finished lines
   pub same-groups : (h h′ : History) (i j : ℕ) → SameRows (rows h i) (rows h′ j) → table h i .groups ≡ table h′ j .groups
   pub same-bytes : (h h′ : History) (i j : ℕ) → SameRows (rows h i) (rows h′ j) → used (table h i) ≡ used (table h′ j)
-  pub same-sum : (h h′ : History) (i j k : ℕ) → SameRows (rows h i) (rows h′ j)
-      → sumOutcome (table h i .bytes) (table h i .groups) k ≡ sumOutcome (table h′ j .bytes) (table h′ j .groups) k
-  pub same-figure : (h h′ : History) (i j k : ℕ) → SameRows (rows h i) (rows h′ j)
-      → figureOutcome (table h i .bytes) (table h i .groups) k ≡ figureOutcome (table h′ j .bytes) (table h′ j .groups) k
-  pub same-line : (h h′ : History) (i j k : ℕ) → SameRows (rows h i) (rows h′ j)
-      → lineOutcome (table h i .bytes) (table h i .groups) k ≡ lineOutcome (table h′ j .bytes) (table h′ j .groups) k
+  pub same-sum : (h h′ : History) (i j k : ℕ) → SameRows (rows h i) (rows h′ j) → sumIn (table h i) k ≡ sumIn (table h′ j) k
+  pub same-figure : (h h′ : History) (i j k : ℕ) → SameRows (rows h i) (rows h′ j) → figureIn (table h i) k ≡ figureIn (table h′ j) k
+  pub same-line : (h h′ : History) (i j k : ℕ) → SameRows (rows h i) (rows h′ j) → lineIn (table h i) k ≡ lineIn (table h′ j) k
   -- and these are the sum, mill figure and finished line of the table that document 01 fixes for the rows
-  pub fixed-sum : (h : History) (i k : ℕ) → sumOutcome (table h i .bytes) (table h i .groups) k ≡ sumOf (find k (canonical (rows h i)))
-  pub fixed-figure : (h : History) (i k : ℕ) → figureOutcome (table h i .bytes) (table h i .groups) k ≡ figureOf (find k (canonical (rows h i)))
-  pub fixed-line : (h : History) (i k : ℕ) → lineOutcome (table h i .bytes) (table h i .groups) k ≡ lineOf (find k (canonical (rows h i)))
+  pub fixed-sum : (h : History) (i k : ℕ) → sumIn (table h i) k ≡ sumOf (find k (canonical (rows h i)))
+  pub fixed-figure : (h : History) (i k : ℕ) → figureIn (table h i) k ≡ figureOf (find k (canonical (rows h i)))
+  pub fixed-line : (h : History) (i k : ℕ) → lineIn (table h i) k ≡ lineOf (find k (canonical (rows h i)))
   -- a section without a row has no record
   pub absent : (h : History) (i k : ℕ) → length (bitsOf k (rows h i)) ≡ 0 → find k (sectionsIn (table h i)) ≡ none
   -- a section with a row has one: its count is the number of its rows, and its kept value lies within

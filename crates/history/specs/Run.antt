@@ -6,7 +6,8 @@ use lib.Dec.{eqb}
 use lib.IntN.{ℤ}
 use lib.Ieee.{Float}
 use Rattle.refusal.specs.Outcome.{Outcome, accepted, refused}
-use Rattle.finish.specs.Finish.{FinishedLine, sumOf, figureOf, lineOf, sumOutcome, figureOutcome, lineOutcome}
+use Rattle.finish.specs.declared.FinishedLine.{FinishedLine}
+use Rattle.finish.specs.Finish.{sumOf, figureOf, lineOf, sumOutcome, figureOutcome, lineOutcome}
 use Rattle.patch.specs.Rows.{Row}
 use Rattle.table.specs.Calls.{addOutcome, addLeaves, mergeOutcome, mergeLeaves}
 use Rattle.history.specs.Rows.{bitsOf}
@@ -49,13 +50,23 @@ pub data Answer : Type 0 where
   figureIs : Outcome ℤ → Answer
   lineIs : Outcome FinishedLine → Answer
 
+-- finishing section k in a table
+abbrev pub sumIn : Store → ℕ → Outcome Float
+sumIn t k = sumOutcome (t .bytes) (t .groups) k
+
+abbrev pub figureIn : Store → ℕ → Outcome ℤ
+figureIn t k = figureOutcome (t .bytes) (t .groups) k
+
+abbrev pub lineIn : Store → ℕ → Outcome FinishedLine
+lineIn t k = lineOutcome (t .bytes) (t .groups) k
+
 -- what a call on these tables answers
 unfoldable pub answer : (ℕ → Store) → Call → Answer
 answer t (add i ks vs work) = groupsAre (addOutcome (t i .bytes) (t i .groups) ks vs work)
 answer t (merge i j d) = groupsAre (mergeOutcome (t i .bytes) (t i .groups) (t j .bytes) (t j .groups))
-answer t (sum i k) = sumIs (sumOutcome (t i .bytes) (t i .groups) k)
-answer t (figure i k) = figureIs (figureOutcome (t i .bytes) (t i .groups) k)
-answer t (line i k) = lineIs (lineOutcome (t i .bytes) (t i .groups) k)
+answer t (sum i k) = sumIs (sumIn (t i) k)
+answer t (figure i k) = figureIs (figureIn (t i) k)
+answer t (line i k) = lineIs (lineIn (t i) k)
 
 unfoldable pub answers : (ℕ → Store) → List Call → List Answer
 answers t [] = []
