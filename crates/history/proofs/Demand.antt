@@ -27,6 +27,22 @@ use Rattle.history.proofs.Finishing.{finishing-found}
 use Rattle.history.proofs.Fit.{RowsFit, none-fit, sections-held, sound-held}
 use Rattle.history.proofs.Calls.{holding, tables-after, fit-after, answers-are, answers-not-7}
 
+-- a section has a record where it has a row, and just there
+present-is : (k : ℕ) (bs : List ℕ) → 0 < length bs → sectionIf k bs ≡ some (sectionOf k bs)
+unfolding sectionIf
+present-is k [] l = absurd (omega arith)
+present-is k (b ∷ bs) l = refl
+
+absent-is : (k : ℕ) (bs : List ℕ) → length bs ≡ 0 → sectionIf k bs ≡ none
+unfolding sectionIf
+absent-is k [] e = refl
+absent-is k (b ∷ bs) e = absurd (omega arith)
+
+count-is : (k : ℕ) (bs : List ℕ) → (sectionOf k bs) .count ≡ length bs
+unfolding sectionOf
+count-is k bs = refl
+
+-- ---- a table after a list of calls
 module _ (h : History) where
   lent-is : All (λ (c : Call). not (lendsBytes c) ≡ false) (h .calls)
   lent-is = any-false (λ (c : Call). not (lendsBytes c)) (h .calls) (h .lent)
@@ -60,24 +76,10 @@ module _ (h : History) where
     finishing-is : {A : Type 0} (F : Option Section → Outcome A) (k : ℕ) → finishing F (table h i .bytes) (table h i .groups) k ≡ F (find k (canonical (rows h i)))
     finishing-is F k = finishing-found F (table h i .bytes) (table h i .groups) k sound-is ∙ ap (λ (ts : List Section). F (find k ts)) sections-are
 
-    present-is : (k : ℕ) (bs : List ℕ) → 0 < length bs → sectionIf k bs ≡ some (sectionOf k bs)
-    unfolding sectionIf
-    present-is k [] l = absurd (omega arith)
-    present-is k (b ∷ bs) l = refl
-
-    absent-is : (k : ℕ) (bs : List ℕ) → length bs ≡ 0 → sectionIf k bs ≡ none
-    unfolding sectionIf
-    absent-is k [] e = refl
-    absent-is k (b ∷ bs) e = absurd (omega arith)
-
 -- what a table's rows decide is the same in tables with the same rows
 alike : {A : Type 0} (F : Store → A) (G : List Section → A) → ((h : History) (i : ℕ) → F (table h i) ≡ G (canonical (rows h i)))
     → (h h′ : History) (i j : ℕ) → SameRows (rows h i) (rows h′ j) → F (table h i) ≡ F (table h′ j)
 alike F G is h h′ i j e = is h i ∙ ap G (canonical-same (rows h i) (rows h′ j) e) ∙ sym (is h′ j)
-
-count-is : (k : ℕ) (bs : List ℕ) → (sectionOf k bs) .count ≡ length bs
-unfolding sectionOf
-count-is k bs = refl
 
 pub demand3 : Demand3
 unfolding canonical keysOf image
@@ -96,10 +98,10 @@ demand3 = record {
   fixed-sum = λ h i. finishing-is h i sumOf;
   fixed-figure = λ h i. finishing-is h i figureOf;
   fixed-line = λ h i. finishing-is h i lineOf;
-  absent = λ h i k e. found-is h i k ∙ absent-is h i k (bitsOf k (rows h i)) e;
+  absent = λ h i k e. found-is h i k ∙ absent-is k (bitsOf k (rows h i)) e;
   present = λ h i k l. (
     sectionOf k (bitsOf k (rows h i)),
-    found-is h i k ∙ present-is h i k (bitsOf k (rows h i)) l,
+    found-is h i k ∙ present-is k (bitsOf k (rows h i)) l,
     count-is k (bitsOf k (rows h i)),
     near k (bitsOf k (rows h i)),
   );

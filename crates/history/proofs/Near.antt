@@ -8,7 +8,7 @@ use native.Mathlib.Decide.{decLe}
 use lib.ListN.{length}
 use lib.Dec.{leb·zero}
 use lib.Pow.{pow-add}
-use lib.IntN.{ℤ, pos, negsuc, _+ℤ_, _-ℤ_, _*ℤ_, natAbs, +ℤ-idl, +ℤ-idr}
+use lib.IntN.{ℤ, pos, _+ℤ_, _-ℤ_, _*ℤ_, natAbs, +ℤ-idl, +ℤ-idr}
 use Rattle.integers.proofs.Diff.{ints, byParts, byParts₂}
 use Rattle.level.specs.Double.{size, value}
 use Rattle.level.specs.Level.{unit, top, contribution, kept, topOf, total, exactSum}
@@ -16,6 +16,7 @@ use Rattle.level.proofs.Top.{top-least}
 use Rattle.level.proofs.Kept.{leftAfter, after-half, kept-row}
 use Rattle.level.proofs.Section.{section-near, kept-sum}
 use Rattle.record.specs.Section.{kept as keptOf}
+use Rattle.table.proofs.Read.{size-zero}
 use Rattle.history.specs.Rows.{largest}
 use Rattle.history.specs.Canonical.{sectionOf}
 
@@ -27,20 +28,16 @@ section-kept k bs =
     rw (sub-zero t, leb·zero t, +ℤ-idl (total bs t *ℤ pos (unit t)))
 
 -- ---- tops up to 2: level 0 is kept, so nothing is lost
-zero-size : (z : ℤ) → natAbs z ≡ 0 → z ≡ pos 0
-zero-size (pos n) e = ap pos e
-zero-size (negsuc n) e = absurd (omega arith)
-
 row-whole : (b t : ℕ) → top b ≤ t → t ≤ 2 → kept (contribution b) t 3 ≡ value b
 row-whole b t h l =
     let u : 40 * (t - 2) ≡ 0 = omega arith in
     let half : natAbs (leftAfter t (value b) 3) * 2 ≤ 1 = rw u at (after-half t (value b) 2) in
-    let none : leftAfter t (value b) 3 ≡ pos 0 = zero-size (leftAfter t (value b) 3) (omega arith) in
+    let none : leftAfter t (value b) 3 ≡ pos 0 = size-zero (leftAfter t (value b) 3) (omega arith) in
     sym (+ℤ-idr (kept (contribution b) t 3)) ∙ ap (λ (z : ℤ). kept (contribution b) t 3 +ℤ z) (sym none) ∙ kept-row b t 3 h
 
 no-rows : (t : ℕ) → kept (total []) t 3 ≡ pos 0
 unfolding exactSum topOf
-no-rows t = zero-size (kept (total []) t 3) (omega (arith, section-near [] t 2 (omega arith), off (kept (total []) t 3)))
+no-rows t = size-zero (kept (total []) t 3) (omega (arith, section-near [] t 2 (omega arith), off (kept (total []) t 3)))
   where
     off : (z : ℤ) → natAbs (pos 0 -ℤ z) ≡ natAbs z
     off = byParts _ (λ a b. simp ints (omega arith))

@@ -41,7 +41,7 @@ tri a b = go (decLe a b) (decLe b a)
     go (yes h) (no k) = less (omega arith)
     go (no h) k = more (omega arith)
 
-rising-tail : (k : ℕ) (ls : List ℕ) → Above k ls → Rising ls
+pub rising-tail : (k : ℕ) (ls : List ℕ) → Above k ls → Rising ls
 rising-tail k [] a = tt
 rising-tail k (l ∷ ls) a = a .1
 
@@ -91,15 +91,15 @@ find-ext (s ∷ ss) (t ∷ ts) a b e =
     (find-ext ss ts (rising-tail (s .key) (keysIn ss) a) (rising-tail (t .key) (keysIn ts) b) (λ k. same-tail s t ss ts a b e p k (ℕ-discrete k (s .key))))
 
 -- ---- the three cases of absorbing
-absorb-less : (s t : Section) (ts : List Section) → s .key < t .key → absorb s (t ∷ ts) ≡ s ∷ t ∷ ts
+pub absorb-less : (s t : Section) (ts : List Section) → s .key < t .key → absorb s (t ∷ ts) ≡ s ∷ t ∷ ts
 unfolding absorb
 absorb-less s t ts h = rw (lt-ltb (s .key) (t .key) h)
 
-absorb-same : (s t : Section) (ts : List Section) → s .key ≡ t .key → absorb s (t ∷ ts) ≡ combine t s ∷ ts
+pub absorb-same : (s t : Section) (ts : List Section) → s .key ≡ t .key → absorb s (t ∷ ts) ≡ combine t s ∷ ts
 unfolding absorb
 absorb-same s t ts h = rw (le-ltb (s .key) (t .key) (omega arith), eq-eqb (s .key) (t .key) h)
 
-absorb-more : (s t : Section) (ts : List Section) → t .key < s .key → absorb s (t ∷ ts) ≡ t ∷ absorb s ts
+pub absorb-more : (s t : Section) (ts : List Section) → t .key < s .key → absorb s (t ∷ ts) ≡ t ∷ absorb s ts
 unfolding absorb
 absorb-more s t ts h = rw (le-ltb (s .key) (t .key) (omega arith), ne-eqb (s .key) (t .key) (λ e. omega arith))
 

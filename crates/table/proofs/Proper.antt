@@ -2,7 +2,7 @@
 use Prim.Native.Nat.{ℕ, _+_, _-_, _*_, _^_, _≤_, _<_, max}
 use mathlib.Core.Path.{_≡_}
 use mathlib.Core.Bool.{Bool, true, false, cond}
-use mathlib.Core.List.{List, [], _∷_}
+use mathlib.Core.List.{List, [], _∷_, map}
 use native.Mathlib.Omega.{arith}
 use lib.Dec.{leb, eqb}
 use lib.IntN.{ℤ, pos, _+ℤ_, natAbs}
@@ -14,7 +14,7 @@ use Rattle.record.specs.Section.{Section, sectionAt}
 use Rattle.patch.specs.Rows.{Row}
 use Rattle.table.specs.Combine.{ofRow, levelOf, combine, absorb, merged, added}
 use Rattle.table.proofs.Lists.{All}
-use Rattle.table.proofs.Lookup.{absorb-cases}
+use Rattle.table.proofs.Lookup.{absorb-cases, added-merged}
 
 -- all conditions but that the row count fits its field
 pub record Proper (s : Section) : Type 0 where
@@ -78,7 +78,9 @@ unfolding merged
 merged-proper ts [] a b = a
 merged-proper ts (s ∷ ss) a b = merged-proper (absorb s ts) ss (absorb-proper s (b .0) ts a) (b .1)
 
+rows-proper : (rs : List Row) → All (λ (r : Row). r .key < 2 ^ 32) rs → All Proper (map ofRow rs)
+rows-proper [] a = tt
+rows-proper (r ∷ rs) a = (row-proper r (a .0), rows-proper rs (a .1))
+
 pub added-proper : (ts : List Section) (rs : List Row) → All Proper ts → All (λ (r : Row). r .key < 2 ^ 32) rs → All Proper (added ts rs)
-unfolding added
-added-proper ts [] a b = a
-added-proper ts (r ∷ rs) a b = added-proper (absorb (ofRow r) ts) rs (absorb-proper (ofRow r) (row-proper r (b .0)) ts a) (b .1)
+added-proper ts rs a b = rw (added-merged ts rs) (merged-proper ts (map ofRow rs) a (rows-proper rs b))

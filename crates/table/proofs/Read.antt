@@ -71,16 +71,17 @@ total-in : (n : ℕ) (h : Held) → T (soundHeld n h) → natAbs (totalOf h) ≤
 unfolding soundHeld
 total-in n h t = leb→le (natAbs (totalOf h)) (n * 2 ^ 39) (and-r (ltb (h .residue) (2 ^ 50)) (leb (natAbs (totalOf h)) (n * 2 ^ 39)) t)
 
+-- a whole number of size 0
+pub size-zero : (z : ℤ) → natAbs z ≡ 0 → z ≡ pos 0
+size-zero (pos n) e = ap pos e
+size-zero (negsuc n) e = absurd (omega arith)
+
 none-held : (h : Held) → T (isZero h) → totalOf h ≡ pos 0
 unfolding isZero
 none-held h t =
     let r = eqb→eq (h .residue) 0 (and-l (eqb (h .residue) 0) (eqb (natAbs (h .carry)) 0) t) in
-    let c = none (h .carry) (eqb→eq (natAbs (h .carry)) 0 (and-r (eqb (h .residue) 0) (eqb (natAbs (h .carry)) 0) t)) in
+    let c = size-zero (h .carry) (eqb→eq (natAbs (h .carry)) 0 (and-r (eqb (h .residue) 0) (eqb (natAbs (h .carry)) 0) t)) in
     rw (r, c)
-  where
-    none : (z : ℤ) → natAbs z ≡ 0 → z ≡ pos 0
-    none (pos n) e = ap pos e
-    none (negsuc n) e = absurd (omega arith)
 
 below-none : (i t : ℕ) (h : Held) → T (leb i t || isZero h) → t < i → totalOf h ≡ pos 0
 below-none i t h o l = none-held h (rw (lt-leb i t l) at o)
