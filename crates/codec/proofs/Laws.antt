@@ -64,6 +64,12 @@ numberAt-bytes w x h = ap number (take-all w (bytes w x) (le-of-eq (length-bytes
 abbrev pub AreBytes : List ℕ → Type 0
 AreBytes s = (i : ℕ) → getD s i 0 < 256
 
+pub take-bytes : (n : ℕ) (s : List ℕ) → AreBytes s → AreBytes (take n s)
+take-bytes zero s h i = lit< tt
+take-bytes (suc n) [] h i = lit< tt
+take-bytes (suc n) (b ∷ s) h zero = h 0
+take-bytes (suc n) (b ∷ s) h (suc i) = take-bytes n s (λ j. h (suc j)) i
+
 pub drop-bytes : (n : ℕ) (s : List ℕ) → AreBytes s → AreBytes (drop n s)
 drop-bytes n s h i = rw getD-drop (h (n + i))
 

@@ -1,7 +1,8 @@
 // Little-endian numbers at a place of a byte slice.
 ghost use mathlib.Core.Path.{_≡_};
 ghost use Prim.Native.Nat.{_+_, _-_, _≤_, _<_, _^_};
-ghost use lib.ListN.{length, take, drop};
+ghost use mathlib.Core.List.{_++_};
+ghost use lib.ListN.{length, take, drop, replicate};
 ghost use lib.Seq.{sets};
 ghost use mir.Syntax.{w64};
 ghost use mir.Val.{toZ, ofZ};
@@ -95,5 +96,28 @@ pub fn shift(s: &mut [u8], a: usize, e: usize, d: usize)
     while a < j {
         j -= 1;
         s[j + d] = s[j];
+    }
+}
+
+// The first n bytes of s in the place of d's.
+pub fn copy(d: &mut [u8], s: &[u8], n: usize)
+    requires { ⌜ (n ≤ length (now d)) × (n ≤ length (now s)) ⌝ }
+    ensures { λ _. ⌜ now (d .exit) ≡ take n (now (s .entry)) ++ drop n (now (d .entry)) ⌝ }
+{
+    let mut i = 0;
+    while i < n {
+        d[i] = s[i];
+        i += 1;
+    }
+}
+
+// Zeros over the whole length.
+pub fn clear(s: &mut [u8])
+    ensures { λ _. ⌜ now (s .exit) ≡ replicate (length (now (s .entry))) 0 ⌝ }
+{
+    let mut i = 0;
+    while i < s.len() {
+        s[i] = 0;
+        i += 1;
     }
 }

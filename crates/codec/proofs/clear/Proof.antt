@@ -1,0 +1,53 @@
+-- `clear`: the first i bytes are zeros.
+use Prim.Native.Nat.{ℕ, _+_, _-_, _≤_, _<_}
+use mathlib.Core.Path.{_≡_, refl, ap, _∙_, subst}
+use mathlib.Core.List.{List, [], _++_, append-nil}
+use native.Mathlib.Omega.{arith}
+use borrow.Author.Fill.{fill-none, fill-more}
+use lib.ListN.{length, set, drop, replicate, length-set, drop-of-length-le}
+use Rattle.codec.proofs.clear.Statement.{statement}
+use Rattle.codec.proofs.clear.Tie as tie
+
+abbrev Inv-loop : tie.InvT-loop
+Inv-loop s₀ i₀ s i = (i ≤ length s₀) × (length s ≡ length s₀) × (s ≡ replicate i 0 ++ drop i s₀)
+
+abbrev μ-loop : tie.MeasureT-loop
+μ-loop s₀ i₀ s i = length s₀ - i
+
+loop-holds : tie.Need-loop-holds Inv-loop μ-loop
+loop-holds c = (omega arith, refl, fill-none (c .args .s .now) 0)
+
+slice-write-s : tie.Need-slice-write-s Inv-loop μ-loop
+slice-write-s c = omega arith
+
+add-i : tie.Need-add-i Inv-loop μ-loop
+add-i c = omega arith
+
+loop-less : tie.Need-loop-less Inv-loop μ-loop
+loop-less c = omega arith
+
+loop-again : tie.Need-loop-again Inv-loop μ-loop
+loop-again c =
+    let s = c .before .before .args .s .now in
+    let l = c .before .loop in (
+      omega arith,
+      length-set (l .s) (l .i) 0 ∙ l .inv .1,
+      rw (l .inv .2) (fill-more (l .i) 0 s (omega arith)),
+    )
+
+same-length : tie.Need-same-length Inv-loop μ-loop
+same-length c = c .before .loop .inv .1
+
+done : (s₀ s : List ℕ) (i : ℕ) → i ≡ length s₀ → s ≡ replicate i 0 ++ drop i s₀ → s ≡ replicate (length s₀) 0
+done s₀ s i e h =
+    let l : length s₀ ≤ i = omega arith in
+    h ∙ ap (λ (r : List ℕ). replicate i 0 ++ r) (drop-of-length-le s₀ l) ∙ append-nil (replicate i 0) ∙ ap (λ (n : ℕ). replicate n 0) e
+
+returns : tie.Need-returns Inv-loop μ-loop
+returns c =
+    let l = c .before .loop in
+    done (c .before .before .args .s .now) (l .s) (l .i) (omega arith) (l .inv .2)
+
+pub clear-spec : {M : Type 1} → statement M
+clear-spec =
+    tie.close (tie.spec Inv-loop μ-loop loop-holds slice-write-s add-i loop-less loop-again same-length returns)
