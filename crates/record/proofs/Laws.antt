@@ -1,21 +1,22 @@
 -- Laws of records in bytes.
-use Prim.Native.Nat.{ℕ, _+_, _*_, _^_, _<_, _≤_}
+use Prim.Native.Nat.{ℕ, _+_, _-_, _*_, _^_, _<_, _≤_}
 use mathlib.Core.Path.{_≡_, sym, ap, ap₂, _∙_}
-use mathlib.Core.List.{List, _++_}
+use mathlib.Core.List.{List, _∷_, _++_, append-assoc}
 use mathlib.Core.Bool.{true}
 use native.Mathlib.Omega.{arith}
 use native.Mathlib.Nat.{add-zero, add-assoc}
+use native.Mathlib.Numerals.{add-one}
 use borrow.Author.Tests.{le-leb}
 use lib.Dec.{leb}
 use lib.ListN.{length, getD, set, take, drop, length-append, length-drop, length-map, take-append-drop}
-use lib.Seq.{sets, take-add, drop-drop}
+use lib.Seq.{sets, sets-eq, length-take-le, take-add, drop-drop}
 use lib.IntN.{ℤ}
 use mir.Syntax.{w64}
 use mir.Val.{toZ, ofZ, SFits}
 use mir.ValLaws.{toZ-ofZ, ofZ-toZ, ofZ-fits}
 use Rattle.codec.specs.Bytes.{bytes, numberAt}
-use Rattle.codec.proofs.Laws.{length-bytes, sets-then, numberAt-take, numberAt-drop, numberAt-left, numberAt-right, numberAt-bytes, drop-sets, AreBytes, drop-bytes, numberAt-lt, bytes-numberAt}
-use Rattle.codec.proofs.Cells.{getD-cells, cells-sets, cells-append, cells-take, map-cells, length-cells, image-cells}
+use Rattle.codec.proofs.Laws.{length-bytes, sets-then, numberAt-take, numberAt-drop, numberAt-left, numberAt-right, numberAt-bytes, drop-sets, sets-swap, AreBytes, drop-bytes, numberAt-lt, bytes-numberAt}
+use Rattle.codec.proofs.Cells.{getD-cells, cells-sets, cells-append, cells-take, map-cells, length-cells, cells-insert, image-cells}
 use Rattle.codec.specs.Cells.{image}
 use Rattle.level.specs.declared.Held.{Held}
 use Rattle.record.specs.declared.Record.{Record}
@@ -144,3 +145,27 @@ encode-decode b l h =
 pub table-is : (s : List ℕ) (g : ℕ) → g * 64 ≤ length s → AreBytes s → s ≡ image encode (records s g) ++ drop (g * 64) s
 table-is s g l h =
     sym (take-append-drop (g * 64) s) ∙ ap (λ (x : List ℕ). x ++ drop (g * 64) s) (sym (image-cells 64 encode decode encode-decode g s l h))
+
+-- ---- the later records moved, and then a new one put
+
+module _ (s : List ℕ) (g i : ℕ) (r : Record) (h : i ≤ g) (fits : g * 64 + 64 ≤ length s) where
+  -- the stores of the two steps, as one run
+  run : List ℕ
+  run = encode r ++ take ((g - i) * 64) (drop (i * 64) s)
+
+  length-run : length run ≡ (g + 1) * 64 - i * 64
+  unfolding run
+  length-run =
+      let k : (g - i) * 64 ≤ length (drop (i * 64) s) = rw length-drop (omega arith) in
+      omega (arith, length-append (encode r) (take ((g - i) * 64) (drop (i * 64) s)), length-encode r, length-take-le ((g - i) * 64) (drop (i * 64) s) k)
+
+  pub inserted : {l l′ : List ℕ} → l ≡ sets s (i * 64 + 64) (take (g * 64 - i * 64) (drop (i * 64) s)) → l′ ≡ sets l (i * 64) (encode r)
+      → decode (encode r) ≡ r → records l′ (g + 1) ≡ take i (records s g) ++ r ∷ drop i (records s g)
+  unfolding run
+  inserted {l} {l′} p q e =
+      let n : g * 64 - i * 64 ≡ (g - i) * 64 = omega arith in
+      let m : l′ ≡ sets s (i * 64) run = rw (q, p, n) (sets-swap s (encode r) (take ((g - i) * 64) (drop (i * 64) s)) (i * 64) 64 (length-encode r)) in
+      ap₂ (λ (x : ℕ) (y : List ℕ). records y x) (add-one g)
+      (m ∙ sets-eq run s (i * 64) (omega (arith, length-run)) ∙ simp append-assoc)
+      ∙ cells-insert 64 decode i g s (encode r) (drop (i * 64 + length run) s) h (length-encode r) (omega arith)
+      ∙ ap (λ (x : Record). take i (records s g) ++ x ∷ drop i (records s g)) e

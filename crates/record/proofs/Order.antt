@@ -4,7 +4,7 @@ use mathlib.Core.Path.{_≡_, refl, sym, ap, subst}
 use mathlib.Core.Bool.{Bool, true, false, cond, _||_, or-true, true≢false}
 use mathlib.Core.List.{List, [], _∷_, _++_, map}
 use native.Mathlib.Nat.{lt-trans, eq-or-lt-of-le}
-use mathlib.Core.Logic.{⊎-elim}
+use mathlib.Core.Logic.{_⊎_, inl, inr, ⊎-elim}
 use native.Mathlib.Omega.{arith}
 use lib.Dec.{T, ltb, eqb, ltb→lt, lt→ltb}
 use lib.Ieee.Fits.{and-l, and-r, and-i}
@@ -90,6 +90,14 @@ module _ (k : ℕ) where
           ⊎-elim (λ p. h (omega arith) (subst (λ (n : ℕ). getD ks n 0 ≡ k) (omega arith) q))
           (λ p. omega (arith, below-lt ks r b (omega arith) (omega (arith, rising-lt ks r b i (omega arith) l))))
           (eq-or-lt-of-le m)
+
+  -- where k stands among rising keys, it stands there alone
+  pub place-of : (ks : List ℕ) (i : ℕ) → T (rising ks) → i < length ks → getD ks i 0 ≡ k → At i ≡ place k ks
+  place-of ks i r l e = place-at ks i (sym (first (eq-or-lt-of-le (below-ge ks r i l (omega arith))))) l e
+    where
+      first : (countBelow k ks ≡ i) ⊎ (countBelow k ks < i) → countBelow k ks ≡ i
+      first (inl p) = p
+      first (inr p) = absurd (omega (arith, below-lt ks r (countBelow k ks) (omega arith) (omega (arith, rising-lt ks r (countBelow k ks) i p l))))
 
 -- ---- a new key in its gap
 

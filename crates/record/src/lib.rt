@@ -2,7 +2,8 @@
 ghost use mathlib.Core.Path.{_≡_};
 ghost use mathlib.Core.Bool.{_&&_, _||_};
 ghost use Prim.Native.Nat.{_+_, _*_, _^_, _≤_};
-ghost use lib.ListN.{length};
+ghost use mathlib.Core.List.{_∷_, _++_};
+ghost use lib.ListN.{length, take, drop};
 ghost use lib.Seq.{sets};
 ghost use lib.Dec.{T, leb};
 ghost use Rattle.record.specs.Layout.{heldAt, recordAt, encodeHeld, encode, decode, records};
@@ -96,6 +97,15 @@ pub fn find(t: &[u8], g: usize, key: u32) -> Place
         }
     }
     Place::Gap(lo)
+}
+
+// Record r is put before record i of g; the later ones move up.
+pub fn insert(t: &mut [u8], g: usize, i: usize, r: Record)
+    requires { ⌜ (i ≤ g) × (g * 64 + 64 ≤ length (now t)) ⌝ }
+    ensures { λ _. ⌜ records (now (t .exit)) (g + 1) ≡ take i (records (now (t .entry)) g) ++ r ∷ drop i (records (now (t .entry)) g) ⌝ }
+{
+    codec::shift(t, i * 64, g * 64, 64);
+    put(t, i, r);
 }
 
 fn both(a: bool, b: bool) -> bool

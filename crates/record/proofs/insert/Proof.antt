@@ -1,0 +1,32 @@
+-- `insert` moves the later records up and puts the new one in the gap.
+use Rattle.record.proofs.Laws.{inserted}
+use borrow.Author.Needs.{needs}
+use Rattle.record.proofs.insert.Statement.{statement}
+use Rattle.record.proofs.insert.Tie as tie
+
+mul-shift : tie.Need-mul-shift
+mul-shift c = search needs
+
+mul-shift-2 : tie.Need-mul-shift-2
+mul-shift-2 c = search needs
+
+shift-requires : tie.Need-shift-requires
+shift-requires c κs = search needs
+
+put-requires : tie.Need-put-requires
+put-requires c κs = search needs
+
+same-length : tie.Need-same-length
+same-length c = search needs
+
+returns : tie.Need-returns
+returns c =
+    let p = c .before .before in
+    let q = p .before .before .before .before in
+    let s = q .before .before .before in
+    let a = s .args in
+    inserted (a .t .now) (a .g) (a .i) (a .r) (s .pre .0) (s .pre .1) (q .shift .ensures) (p .put .ensures .0) (p .put .ensures .1)
+
+pub insert-spec : {M : Type 1} → statement M
+insert-spec =
+    tie.close (tie.spec mul-shift mul-shift-2 shift-requires put-requires same-length returns)
