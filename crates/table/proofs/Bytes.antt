@@ -75,7 +75,7 @@ none-below i t z h = go (decLe i t)
     go (yes l) = rw (le-leb i t l)
     go (no l) = rw (lt-leb i t (omega arith), h (omega arith))
 
-sound-record : (s : Section) → Proper s → soundRecord (recordOf s) ≡ true
+pub sound-record : (s : Section) → Proper s → soundRecord (recordOf s) ≡ true
 unfolding soundRecord
 sound-record s p =
     rw (
@@ -97,7 +97,7 @@ records-read (t ∷ ts) rest a =
     ∙ cells-cons 64 decode (length ts) (encode (recordOf t)) (sectionBytes ts ++ rest) (length-encode (recordOf t))
     ∙ ap₂ _∷_ (decode-encode (recordOf t) (in-range t (a .0))) (records-read ts rest (a .1))
 
-meanings : (ts : List Section) → map meaning (map recordOf ts) ≡ ts
+pub meanings : (ts : List Section) → map meaning (map recordOf ts) ≡ ts
 meanings [] = refl
 meanings (t ∷ ts) = ap₂ _∷_ (meaning-record t) (meanings ts)
 
@@ -128,12 +128,12 @@ unfolding rising
 rising-above k [] a = refl
 rising-above k (t ∷ ts) a = rw (lt-ltb k (t .key) (a .0)) (rising-above (t .key) ts (a .1))
 
-rising-records : (ts : List Section) → Rising (keysIn ts) → rising (keys (map recordOf ts)) ≡ true
+pub rising-records : (ts : List Section) → Rising (keysIn ts) → rising (keys (map recordOf ts)) ≡ true
 unfolding rising
 rising-records [] a = refl
 rising-records (t ∷ ts) a = rising-above (t .key) ts a
 
-sound-records : (ts : List Section) → All Fits ts → soundRecords (map recordOf ts) ≡ true
+pub sound-records : (ts : List Section) → All Fits ts → soundRecords (map recordOf ts) ≡ true
 unfolding soundRecords
 sound-records [] a = refl
 sound-records (t ∷ ts) a = rw (sound-record t (a .0 .proper)) (sound-records ts (a .1))

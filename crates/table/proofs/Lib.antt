@@ -6,3 +6,5 @@ pub mod Insert
 pub mod Proper
 pub mod Bytes
 pub mod Read
+pub mod Totals
+pub mod State

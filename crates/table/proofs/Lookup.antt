@@ -58,7 +58,7 @@ pub find-tail : (k : ℕ) (t : Section) (ts : List Section) → (k ≡ t .key �
 unfolding find
 find-tail k t ts e = rw (ne-eqb k (t .key) e)
 
-find-above : (k l : ℕ) (ts : List Section) → Above k (keysIn ts) → l ≤ k → find l ts ≡ none
+pub find-above : (k l : ℕ) (ts : List Section) → Above k (keysIn ts) → l ≤ k → find l ts ≡ none
 find-above k l [] a h = find-nil l
 find-above k l (t ∷ ts) a h =
     find-tail l t ts (λ e. omega (arith, a .0)) ∙ find-above (t .key) l ts (a .1) (omega (arith, a .0))

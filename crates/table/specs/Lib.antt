@@ -1,3 +1,5 @@
 -- The definitions that the contracts cite.
 pub mod Combine
 pub mod Calls
+pub mod Steps
+pub mod Answer

@@ -1,1 +1,104 @@
-// Adding a patch's rows to a table, and merging one table into another: the definitions stand in specs/.
+// Sections combined by value: what adding a row and merging two records do.
+ghost use mathlib.Core.Path.{_≡_};
+ghost use Prim.Native.Nat.{_+_, _≤_, _<_, _^_, max};
+ghost use lib.Dec.{T};
+ghost use lib.IntN.{pos, _+ℤ_};
+ghost use Rattle.level.specs.Level.{below};
+ghost use Rattle.level.specs.Carry.{heldOf};
+ghost use Rattle.record.specs.Sound.{soundRecord};
+ghost use Rattle.record.specs.Section.{meaning, recordOf};
+ghost use Rattle.table.specs.Combine.{ofRow, levelOf, combine};
+ghost use Rattle.table.specs.Steps.{heldIn, bothAt};
+use level::Held;
+use record::Record;
+use refusal::Refusal;
+
+// What an add or a merge answers: the table's new group count, or why the call is refused.
+pub enum TableAnswer {
+    Groups(usize),
+    Refused(Refusal),
+}
+
+// A level that holds nothing.
+fn nothing() -> Held
+    ensures { λ h. ⌜ h ≡ heldOf (pos 0) ⌝ }
+{
+    Held {
+        residue: 0,
+        carry: 0,
+    }
+}
+
+// What a record holds at level j.
+fn held_at(r: Record, j: u32) -> Held
+    requires { ⌜ j ≤ 52 ⌝ }
+    ensures { λ h. ⌜ h ≡ heldIn r j ⌝ }
+{
+    if j == r.top {
+        let high = r.high;
+        return high;
+    }
+    if j + 1 == r.top {
+        let middle = r.middle;
+        return middle;
+    }
+    if j + 2 == r.top {
+        let low = r.low;
+        return low;
+    }
+    nothing()
+}
+
+// What two records hold together d levels below level t; below level 0 there is nothing.
+fn held_below(a: Record, b: Record, t: u32, d: u32) -> Held
+    requires { ⌜ t ≤ 52 ⌝ }
+    requires { ⌜ T (soundRecord a) ⌝ }
+    requires { ⌜ T (soundRecord b) ⌝ }
+    ensures { λ h. ⌜ h ≡ heldOf (below (bothAt (meaning a) (meaning b)) t d) ⌝ }
+{
+    if t < d {
+        return nothing();
+    }
+    level::add_held(held_at(a, t - d), held_at(b, t - d))
+}
+
+fn larger(x: u32, y: u32) -> u32
+    ensures { λ r. ⌜ r ≡ max x y ⌝ }
+{
+    if x < y { y } else { x }
+}
+
+// Two records of one section as one.
+pub fn combined(a: Record, b: Record) -> Record
+    requires { ⌜ T (soundRecord a) ⌝ }
+    requires { ⌜ T (soundRecord b) ⌝ }
+    requires { ⌜ a .count + b .count < 2 ^ 32 ⌝ }
+    ensures { λ r. ⌜ r ≡ recordOf (combine (meaning a) (meaning b)) ⌝ }
+{
+    let t = larger(a.top, b.top);
+    Record {
+        key: a.key,
+        count: a.count + b.count,
+        top: t,
+        zero: 0,
+        high: held_below(a, b, t, 0),
+        middle: held_below(a, b, t, 1),
+        low: held_below(a, b, t, 2),
+    }
+}
+
+// The record of one row.
+pub fn row_record(key: u32, bits: u64) -> Record
+    ensures { λ r. ⌜ r ≡ recordOf (ofRow (record { key = key; bits = bits })) ⌝ }
+{
+    let c = level::contributions_of(bits);
+    Record {
+        key,
+        count: 1,
+        top: c.top,
+        zero: 0,
+        high: level::hold(c.high),
+        middle: level::hold(c.middle),
+        low: level::hold(c.low),
+    }
+}

@@ -1,0 +1,143 @@
+-- A sound table in bytes: its sections fit, their keys rise, and its used bytes are those of its sections.
+use Prim.Native.Nat.{ℕ, zero, suc, _+_, _-_, _*_, _^_, _≤_, _<_}
+use mathlib.Core.Path.{_≡_, refl, sym, ap, ap₂, _∙_, subst}
+use mathlib.Core.Bool.{Bool, true, false, _&&_, _||_}
+use mathlib.Core.List.{List, [], _∷_, _++_, map}
+use native.Mathlib.Nat.{lt-of-not-le}
+use native.Mathlib.Decide.{decLt}
+use native.Mathlib.Omega.{arith}
+use borrow.Author.Tests.{lt-leb, le-leb}
+use lib.Dec.{T, leb, ltb, eqb, leb→le, ltb→lt, eqb→eq, lit<}
+use lib.Ieee.Fits.{and-l, and-r}
+use lib.IntN.{ℤ, pos, negsuc, natAbs}
+use lib.ListN.{length, getD, take, drop, length-map}
+use Rattle.codec.specs.Bytes.{numberAt}
+use Rattle.codec.specs.Cells.{cells, image}
+use Rattle.codec.proofs.Laws.{AreBytes, drop-bytes, take-bytes, numberAt-lt}
+use Rattle.codec.proofs.Cells.{length-cells, image-cells}
+use Rattle.level.specs.declared.Held.{Held}
+use Rattle.level.specs.Carry.{heldOf, totalOf}
+use Rattle.level.proofs.Carry.{held-total}
+use Rattle.record.specs.declared.Record.{Record}
+use Rattle.record.specs.Layout.{decode, encode, records, capacity}
+use Rattle.record.specs.Keys.{keys, rising}
+use Rattle.record.specs.Sound.{soundHeld, isZero, soundRecord, soundRecords, sound}
+use Rattle.record.specs.Section.{Section, meaning, recordOf, sections, sectionBytes, written}
+use Rattle.record.proofs.Laws.{encode-decode}
+use Rattle.record.proofs.Sound.{sound-parts, sound-made}
+use Rattle.table.proofs.Lists.{All}
+use Rattle.table.proofs.Lookup.{Above, Rising, keysIn}
+use Rattle.table.proofs.Proper.{Proper}
+use Rattle.table.proofs.Totals.{SoundParts, sound-record-parts}
+use Rattle.table.proofs.Bytes.{Fits, rising-records, sound-records}
+
+-- ---- one record
+total-bound : (n : ℕ) (h : Held) → T (soundHeld n h) → natAbs (totalOf h) ≤ n * 2 ^ 39
+unfolding soundHeld
+total-bound n h t = leb→le (natAbs (totalOf h)) (n * 2 ^ 39) (and-r (ltb (h .residue) (2 ^ 50)) (leb (natAbs (totalOf h)) (n * 2 ^ 39)) t)
+
+residue-bound : (n : ℕ) (h : Held) → T (soundHeld n h) → h .residue < 2 ^ 50
+unfolding soundHeld
+residue-bound n h t = ltb→lt (h .residue) (2 ^ 50) (and-l (ltb (h .residue) (2 ^ 50)) (leb (natAbs (totalOf h)) (n * 2 ^ 39)) t)
+
+none : (z : ℤ) → natAbs z ≡ 0 → z ≡ pos 0
+none (pos n) e = ap pos e
+none (negsuc n) e = absurd (omega arith)
+
+zero-total : (h : Held) → T (isZero h) → totalOf h ≡ pos 0
+unfolding isZero
+zero-total h t =
+    let a = eqb→eq (h .residue) 0 (and-l (eqb (h .residue) 0) (eqb (natAbs (h .carry)) 0) t) in
+    let b = none (h .carry) (eqb→eq (natAbs (h .carry)) 0 (and-r (eqb (h .residue) 0) (eqb (natAbs (h .carry)) 0) t)) in
+    rw (a, b)
+
+below-zero : (i t : ℕ) (h : Held) → T (leb i t || isZero h) → t < i → totalOf h ≡ pos 0
+below-zero i t h p l = zero-total h (subst (λ (b : Bool). T (b || isZero h)) (lt-leb i t l) p)
+
+pub section-proper : (r : Record) → r .key < 2 ^ 32 → T (soundRecord r) → Proper (meaning r)
+section-proper r k t =
+    let p = sound-record-parts r t in
+    record {
+      key = k;
+      count = p .count;
+      top = p .top;
+      high = total-bound (r .count) (r .high) (p .high);
+      middle = total-bound (r .count) (r .middle) (p .middle);
+      low = total-bound (r .count) (r .low) (p .low);
+      second = below-zero 1 (r .top) (r .middle) (p .second);
+      third = below-zero 2 (r .top) (r .low) (p .third);
+    }
+
+pub record-meaning : (r : Record) → T (soundRecord r) → recordOf (meaning r) ≡ r
+record-meaning r t =
+    let p = sound-record-parts r t in
+    let h = held-total (r .high) (residue-bound (r .count) (r .high) (p .high)) in
+    let m = held-total (r .middle) (residue-bound (r .count) (r .middle) (p .middle)) in
+    let l = held-total (r .low) (residue-bound (r .count) (r .low) (p .low)) in
+    λ i. record { key = r .key; count = r .count; top = r .top; zero = sym (p .zero) i; high = h i; middle = m i; low = l i }
+
+-- ---- the records of a table
+cells-all : {A : Type 0} (P : A → Type 0) (w : ℕ) (f : List ℕ → A) → ((b : List ℕ) → AreBytes b → P (f b)) → (n : ℕ) (s : List ℕ) → AreBytes s → All P (cells w f n s)
+unfolding cells
+cells-all P w f h zero s a = tt
+cells-all P w f h (suc n) s a = (h (take w s) (take-bytes w s a), cells-all P w f h n (drop w s) (drop-bytes w s a))
+
+abbrev Small : Record → Type 0
+Small r = (r .key < 2 ^ 32) × (r .count < 2 ^ 32)
+
+pub records-small : (s : List ℕ) (g : ℕ) → AreBytes s → All Small (records s g)
+unfolding decode
+records-small s g = cells-all Small 64 decode small g s
+  where
+    small : (b : List ℕ) → AreBytes b → Small (decode b)
+    small b a = (numberAt-lt 4 0 b a, numberAt-lt 4 4 b a)
+
+fits-all : (rs : List Record) → All Small rs → T (soundRecords rs) → All Fits (map meaning rs)
+unfolding soundRecords
+fits-all [] a t = tt
+fits-all (r ∷ rs) a t =
+    (record { proper = section-proper r (a .0 .0) (and-l (soundRecord r) (soundRecords rs) t); few = omega (arith, a .0 .1) },
+    fits-all rs (a .1) (and-r (soundRecord r) (soundRecords rs) t))
+
+rising-keys : (rs : List Record) → T (rising (keys rs)) → Rising (keysIn (map meaning rs))
+unfolding rising
+rising-keys [] t = tt
+rising-keys (r ∷ []) t = tt
+rising-keys (r ∷ q ∷ rs) t =
+    (ltb→lt (r .key) (q .key) (and-l (ltb (r .key) (q .key)) (rising (keys (q ∷ rs))) t), rising-keys (q ∷ rs) (and-r (ltb (r .key) (q .key)) (rising (keys (q ∷ rs))) t))
+
+records-back : (rs : List Record) → T (soundRecords rs) → map recordOf (map meaning rs) ≡ rs
+unfolding soundRecords
+records-back [] t = refl
+records-back (r ∷ rs) t = ap₂ _∷_ (record-meaning r (and-l (soundRecord r) (soundRecords rs) t)) (records-back rs (and-r (soundRecord r) (soundRecords rs) t))
+
+pub length-sections : (s : List ℕ) (g : ℕ) → length (sections s g) ≡ g
+length-sections s g = length-map (records s g) meaning ∙ length-cells 64 decode g s
+
+-- ---- a sound table
+module _ (s : List ℕ) (g : ℕ) (ok : T (sound s g)) where
+  pub sound-fits : AreBytes s → All Fits (sections s g)
+  sound-fits a = fits-all (records s g) (records-small s g a) (sound-parts s g ok .3)
+
+  pub sound-rising : Rising (keysIn (sections s g))
+  sound-rising = rising-keys (records s g) (sound-parts s g ok .2)
+
+  pub sound-records-of : map recordOf (sections s g) ≡ records s g
+  sound-records-of = records-back (records s g) (sound-parts s g ok .3)
+
+-- records of sections that fit, in rising order, are a sound table
+pub sound-sections : (s : List ℕ) (g : ℕ) (ts : List Section) → g ≤ capacity (length s) → records s g ≡ map recordOf ts → All Fits ts → Rising (keysIn ts) → T (sound s g)
+sound-sections s g ts h e a r =
+    sound-made s g (omega arith) (omega arith)
+    (subst T (sym (ap (λ (rs : List Record). rising (keys rs)) e ∙ rising-records ts r)) tt)
+    (subst T (sym (ap soundRecords e ∙ sound-records ts a)) tt)
+
+-- ---- the used bytes
+image-map : (ts : List Section) → sectionBytes ts ≡ image encode (map recordOf ts)
+unfolding image
+image-map [] = refl
+image-map (t ∷ ts) = ap (λ (l : List ℕ). encode (recordOf t) ++ l) (image-map ts)
+
+pub used-bytes : (s : List ℕ) (g : ℕ) → T (sound s g) → AreBytes s → take (g * 64) s ≡ sectionBytes (sections s g)
+used-bytes s g ok b =
+    sym (image-map (sections s g) ∙ ap (image encode) (sound-records-of s g ok) ∙ image-cells 64 encode decode encode-decode g s (sound-parts s g ok .0) b)

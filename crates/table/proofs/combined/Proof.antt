@@ -1,0 +1,51 @@
+-- `combined` is the definition, field by field.
+use Prim.Native.Nat.{_+_, _≤_, max}
+use mathlib.Core.Path.{_≡_, ap, _∙_}
+use native.Mathlib.Omega.{arith}
+use lib.Dec.{T}
+use borrow.Author.Needs.{needs}
+use Rattle.level.specs.Carry.{heldOf}
+use Rattle.record.specs.Sound.{soundRecord}
+use Rattle.level.specs.Level.{below}
+use Rattle.record.specs.Section.{meaning}
+use Rattle.table.specs.Combine.{combine}
+use Rattle.table.specs.Steps.{bothAt}
+use Rattle.table.proofs.Totals.{sound-record-parts}
+use Rattle.table.proofs.combined.Statement.{statement}
+use Rattle.table.proofs.combined.Tie as tie
+
+larger-requires : tie.Need-larger-requires
+larger-requires c κs = search needs
+
+add-t4 : tie.Need-add-t4
+add-t4 c = search needs
+
+top-within : (c : tie.Start) → max (c .args .a .top) (c .args .b .top) ≤ 52
+top-within c =
+    let p = sound-record-parts (c .args .a) (c .pre .0) in
+    let q = sound-record-parts (c .args .b) (c .pre .1 .0) in
+    omega (arith, p .top, q .top)
+
+held-below-requires : tie.Need-held-below-requires
+held-below-requires c κs = let s = c .before .before .before in (omega (arith, top-within s, c .before .before .larger .ensures), (s .pre .0, s .pre .1 .0))
+
+held-below-requires-2 : tie.Need-held-below-requires-2
+held-below-requires-2 c κs = let s = c .before .before .before .before in (omega (arith, top-within s, c .before .before .before .larger .ensures), (s .pre .0, s .pre .1 .0))
+
+held-below-requires-3 : tie.Need-held-below-requires-3
+held-below-requires-3 c κs = let s = c .before .before .before .before .before in (omega (arith, top-within s, c .before .before .before .before .larger .ensures), (s .pre .0, s .pre .1 .0))
+
+returns : tie.Need-returns
+unfolding combine
+returns c = cc
+
+pub combined-spec : {M : Type 1} → statement M
+combined-spec =
+    tie.close
+    (tie.spec
+    larger-requires
+    add-t4
+    held-below-requires
+    held-below-requires-2
+    held-below-requires-3
+    returns)

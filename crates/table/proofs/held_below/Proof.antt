@@ -1,0 +1,54 @@
+-- `held_below` adds what the two records hold at the level.
+use Prim.Native.Nat.{ℕ, _-_, _^_, _<_}
+use mathlib.Core.Path.{_≡_, ap, ap₂, _∙_}
+use native.Mathlib.Omega.{arith}
+use borrow.Author.Needs.{needs}
+use borrow.Author.Tests.{le-leb, lt-leb}
+use lib.IntN.{_+ℤ_}
+use Rattle.level.specs.Carry.{heldOf, totalOf}
+use Rattle.table.specs.Steps.{heldIn}
+use Rattle.table.proofs.Totals.{held-level, held-in-range}
+use Rattle.table.proofs.held_below.Statement.{statement}
+use Rattle.table.proofs.held_below.Tie as tie
+
+nothing-requires : tie.Need-nothing-requires
+nothing-requires c κs = search needs
+
+returns : tie.Need-returns
+returns c = let a = c .before .before .args in rw (lt-leb (a .d) (a .t) (c .before .if1 .taken)) (c .nothing .ensures)
+
+held-at-requires : tie.Need-held-at-requires
+held-at-requires c κs = search needs
+
+held-at-requires-2 : tie.Need-held-at-requires-2
+held-at-requires-2 c κs = search needs
+
+few : (c : tie.Start) → (c .args .a .count < 2 ^ 32) × (c .args .b .count < 2 ^ 32)
+few c = search needs
+
+add-held-requires : tie.Need-add-held-requires
+add-held-requires c κs =
+    let s = c .before .before .before in
+    let j = s .args .t - s .args .d in
+    let x = held-in-range (s .args .a) j (few s .0) (s .pre .1 .0) in
+    let y = held-in-range (s .args .b) j (few s .1) (s .pre .1 .1) in
+    rw (c .before .held-at .ensures, c .held-at2 .ensures) (x .0, y .0, omega arith, omega arith)
+
+returns-2 : tie.Need-returns-2
+returns-2 c =
+    let s = c .before .before .before .before in
+    let j = s .args .t - s .args .d in
+    rw (le-leb (s .args .d) (s .args .t) (omega arith))
+    (c .add-held .ensures
+    ∙ ap heldOf (ap₂ _+ℤ_ (ap totalOf (c .before .before .held-at .ensures) ∙ held-level (s .args .a) j) (ap totalOf (c .before .held-at2 .ensures) ∙ held-level (s .args .b) j)))
+
+pub held-below-spec : {M : Type 1} → statement M
+held-below-spec =
+    tie.close
+    (tie.spec
+    nothing-requires
+    returns
+    held-at-requires
+    held-at-requires-2
+    add-held-requires
+    returns-2)

@@ -1,0 +1,10 @@
+-- What each answer of an add or a merge says: the new group count, or the refusal's number.
+use Prim.Native.Nat.{ℕ}
+use Rattle.refusal.specs.Number.{numberOf}
+use Rattle.refusal.specs.Outcome.{Outcome, accepted, refused}
+use Rattle.table.specs.declared.TableAnswer.{TableAnswer}
+use Rattle.table.specs.declared.TableAnswer.the-variants.{Groups, Refused}
+
+abbrev pub tableAnswer : TableAnswer → Outcome ℕ
+tableAnswer (Groups g) = accepted g
+tableAnswer (Refused r) = refused (numberOf r)
