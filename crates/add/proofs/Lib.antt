@@ -1,0 +1,8 @@
+-- Laws of adding rows.
+pub mod Any
+pub mod Columns
+pub mod Counts
+pub mod Absorbing
+pub mod Rows
+pub mod Work
+pub mod Answers
