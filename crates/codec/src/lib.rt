@@ -115,9 +115,9 @@ pub fn copy(d: &mut [u8], s: &[u8], n: usize)
 pub fn clear(s: &mut [u8])
     ensures { λ _. ⌜ now (s .exit) ≡ replicate (length (now (s .entry))) 0 ⌝ }
 {
-    let mut i = 0;
-    while i < s.len() {
-        s[i] = 0;
-        i += 1;
+    let mut at = 0;
+    while at < s.len() {
+        s[at] = 0;
+        at += 1;
     }
 }

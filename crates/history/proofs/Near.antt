@@ -9,6 +9,7 @@ use lib.ListN.{length}
 use lib.Dec.{leb·zero}
 use lib.Pow.{pow-add}
 use lib.IntN.{ℤ, pos, _+ℤ_, _-ℤ_, _*ℤ_, natAbs, +ℤ-idl, +ℤ-idr}
+use Rattle.integers.proofs.Laws.{size-zero}
 use Rattle.integers.proofs.Diff.{ints, byParts, byParts₂}
 use Rattle.level.specs.Double.{size, value}
 use Rattle.level.specs.Level.{unit, top, contribution, kept, topOf, total, exactSum}
@@ -16,7 +17,6 @@ use Rattle.level.proofs.Top.{top-least}
 use Rattle.level.proofs.Kept.{leftAfter, after-half, kept-row}
 use Rattle.level.proofs.Section.{section-near, kept-sum}
 use Rattle.record.specs.Section.{kept as keptOf}
-use Rattle.table.proofs.Read.{size-zero}
 use Rattle.history.specs.Rows.{largest}
 use Rattle.history.specs.Canonical.{sectionOf}
 

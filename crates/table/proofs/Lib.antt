@@ -2,9 +2,7 @@
 pub mod Lists
 pub mod Combine
 pub mod Lookup
-pub mod Insert
 pub mod Proper
 pub mod Bytes
-pub mod Read
 pub mod Totals
 pub mod State

@@ -11,6 +11,7 @@ use lib.Dec.{T, leb, ltb, eqb, leb→le, ltb→lt, eqb→eq, lit<}
 use lib.Ieee.Fits.{and-l, and-r}
 use lib.IntN.{ℤ, pos, negsuc, natAbs}
 use lib.ListN.{length, getD, take, drop, length-map}
+use Rattle.integers.proofs.Laws.{size-zero}
 use Rattle.codec.specs.Bytes.{numberAt}
 use Rattle.codec.specs.Cells.{cells, image}
 use Rattle.codec.proofs.Laws.{AreBytes, drop-bytes, take-bytes, numberAt-lt}
@@ -40,15 +41,11 @@ residue-bound : (n : ℕ) (h : Held) → T (soundHeld n h) → h .residue < 2 ^ 
 unfolding soundHeld
 residue-bound n h t = ltb→lt (h .residue) (2 ^ 50) (and-l (ltb (h .residue) (2 ^ 50)) (leb (natAbs (totalOf h)) (n * 2 ^ 39)) t)
 
-none : (z : ℤ) → natAbs z ≡ 0 → z ≡ pos 0
-none (pos n) e = ap pos e
-none (negsuc n) e = absurd (omega arith)
-
 zero-total : (h : Held) → T (isZero h) → totalOf h ≡ pos 0
 unfolding isZero
 zero-total h t =
     let a = eqb→eq (h .residue) 0 (and-l (eqb (h .residue) 0) (eqb (natAbs (h .carry)) 0) t) in
-    let b = none (h .carry) (eqb→eq (natAbs (h .carry)) 0 (and-r (eqb (h .residue) 0) (eqb (natAbs (h .carry)) 0) t)) in
+    let b = size-zero (h .carry) (eqb→eq (natAbs (h .carry)) 0 (and-r (eqb (h .residue) 0) (eqb (natAbs (h .carry)) 0) t)) in
     rw (a, b)
 
 below-zero : (i t : ℕ) (h : Held) → T (leb i t || isZero h) → t < i → totalOf h ≡ pos 0

@@ -1,4 +1,4 @@
--- `clear`: the first i bytes are zeros.
+-- `clear`: the bytes before `at` are zeros.
 use Prim.Native.Nat.{ℕ, _+_, _-_, _≤_, _<_}
 use mathlib.Core.Path.{_≡_, refl, ap, _∙_, subst}
 use mathlib.Core.List.{List, [], _++_, append-nil}
@@ -9,10 +9,10 @@ use Rattle.codec.proofs.clear.Statement.{statement}
 use Rattle.codec.proofs.clear.Tie as tie
 
 abbrev Inv-loop : tie.InvT-loop
-Inv-loop s₀ i₀ s i = (i ≤ length s₀) × (length s ≡ length s₀) × (s ≡ replicate i 0 ++ drop i s₀)
+Inv-loop s₀ at₀ s at = (at ≤ length s₀) × (length s ≡ length s₀) × (s ≡ replicate at 0 ++ drop at s₀)
 
 abbrev μ-loop : tie.MeasureT-loop
-μ-loop s₀ i₀ s i = length s₀ - i
+μ-loop s₀ at₀ s at = length s₀ - at
 
 loop-holds : tie.Need-loop-holds Inv-loop μ-loop
 loop-holds c = (omega arith, refl, fill-none (c .args .s .now) 0)
@@ -20,8 +20,8 @@ loop-holds c = (omega arith, refl, fill-none (c .args .s .now) 0)
 slice-write-s : tie.Need-slice-write-s Inv-loop μ-loop
 slice-write-s c = omega arith
 
-add-i : tie.Need-add-i Inv-loop μ-loop
-add-i c = omega arith
+add-at : tie.Need-add-at Inv-loop μ-loop
+add-at c = omega arith
 
 loop-less : tie.Need-loop-less Inv-loop μ-loop
 loop-less c = omega arith
@@ -31,8 +31,8 @@ loop-again c =
     let s = c .before .before .args .s .now in
     let l = c .before .loop in (
       omega arith,
-      length-set (l .s) (l .i) 0 ∙ l .inv .1,
-      rw (l .inv .2) (fill-more (l .i) 0 s (omega arith)),
+      length-set (l .s) (l .at) 0 ∙ l .inv .1,
+      rw (l .inv .2) (fill-more (l .at) 0 s (omega arith)),
     )
 
 same-length : tie.Need-same-length Inv-loop μ-loop
@@ -46,8 +46,8 @@ done s₀ s i e h =
 returns : tie.Need-returns Inv-loop μ-loop
 returns c =
     let l = c .before .loop in
-    done (c .before .before .args .s .now) (l .s) (l .i) (omega arith) (l .inv .2)
+    done (c .before .before .args .s .now) (l .s) (l .at) (omega arith) (l .inv .2)
 
 pub clear-spec : {M : Type 1} → statement M
 clear-spec =
-    tie.close (tie.spec Inv-loop μ-loop loop-holds slice-write-s add-i loop-less loop-again same-length returns)
+    tie.close (tie.spec Inv-loop μ-loop loop-holds slice-write-s add-at loop-less loop-again same-length returns)
