@@ -24,15 +24,9 @@ use Rattle.level.proofs.Signs.{sub-signed, natAbs-signed}
 use Rattle.level.proofs.Double.{significand-lt}
 use Rattle.level.proofs.Near.{closest-cases, pow-sum}
 use Rattle.level.proofs.Binary64.{finite-binary64, value-binary64}
-use Rattle.finish.specs.Sum.{limit, nearestDouble, tooLarge}
+use Rattle.finish.specs.Sum.{limit, nearestDouble, tooLarge, Nearest}
 use Rattle.finish.specs.Limbs.{dropped, nearby}
 use Rattle.finish.proofs.Pattern.{le-or-lt, reaches, limit-value, limit-number, limit-finite, pattern-bits}
-
--- The double with the bits b is finite, no finite double is nearer to k units of 2^-1074, and where another one is as near, its significand is even.
-pub record Nearest (k : ℤ) (b : ℕ) : Type 0 where
-  pub number : finite b ≡ true
-  pub near : (c : ℕ) → finite c ≡ true → natAbs (k -ℤ value b) ≤ natAbs (k -ℤ value c)
-  pub even : (c : ℕ) → finite c ≡ true → (value c ≡ value b → ⊥) → natAbs (k -ℤ value b) ≡ natAbs (k -ℤ value c) → significand b % 2 ≡ 0
 
 -- ---- the number of units nearest to n among all numbers of units
 
