@@ -12,15 +12,16 @@ use Rattle.level.specs.Double.{finite, significand, value}
 unfoldable pub nearestDouble : ℤ → Float
 nearestDouble k = round binary64 (not (nonNeg k)) (natAbs k) (2 ^ 1074)
 
--- the size from which a kept value is too large: 2^1024 - 2^970
+-- the size from which a kept value is too large: 2^1024 - 2^970, in units
 abbrev pub limit : ℕ
 limit = (2 ^ 1024 - 2 ^ 970) * 2 ^ 1074
 
+-- document 01's condition 14
 unfoldable pub tooLarge : ℤ → Bool
 tooLarge k = leb limit (natAbs k)
 
--- What "nearest" means, for the sum's proof: the double with the bits b is finite, no finite double is nearer to k units, and where another one is as
--- near, the significand of b is even.
+-- what "nearest" means, apart from how it is found: the double with the bits b is finite, no finite double is nearer to k units, and where another
+-- one is as near, the significand of b is even
 pub record Nearest (k : ℤ) (b : ℕ) : Type 0 where
   pub number : finite b ≡ true
   pub near : (c : ℕ) → finite c ≡ true → natAbs (k -ℤ value b) ≤ natAbs (k -ℤ value c)
