@@ -1,0 +1,9 @@
+-- The laws of rows and of lists of calls, and demand 3.
+pub mod Sections
+pub mod Canonical
+pub mod Order
+pub mod Near
+pub mod Finishing
+pub mod Fit
+pub mod Calls
+pub mod Demand

@@ -1,0 +1,100 @@
+-- The same rows, repeats counted, give the same table, whatever their order.
+use Prim.Native.Nat.{ℕ, suc, _+_, _<_}
+use mathlib.Core.Path.{_≡_, refl, sym, _∙_, ap, subst}
+use mathlib.Core.Bool.{false, cond}
+use mathlib.Core.List.{List, [], _∷_}
+use mathlib.Core.Option.{Option}
+use native.Mathlib.Omega.{arith}
+use native.Mathlib.Decide.{ℕ-discrete}
+use borrow.Author.Tests.{eq-eqb, ne-eqb}
+use Rattle.record.specs.Section.{Section}
+use Rattle.patch.specs.Rows.{Row}
+use Rattle.table.proofs.Lookup.{join, join-assoc}
+use Rattle.history.specs.Rows.{equalRows, occurs, SameRows, bitsOf}
+use Rattle.history.specs.Canonical.{sectionIf, canonical}
+use Rattle.history.proofs.Sections.{join-sections, join-comm}
+use Rattle.history.proofs.Canonical.{bits-append, is-canonical, find-canonical, canonical-rising}
+
+-- ys is xs in another order
+data Permutation : List Row → List Row → Type 0 where
+  still : {xs : List Row} → Permutation xs xs
+  skip : {x : Row} {xs ys : List Row} → Permutation xs ys → Permutation (x ∷ xs) (x ∷ ys)
+  swap : {x y : Row} {xs : List Row} → Permutation (x ∷ y ∷ xs) (y ∷ x ∷ xs)
+  both : {xs ys zs : List Row} → Permutation xs ys → Permutation ys zs → Permutation xs zs
+
+-- ---- equal occurrences make a permutation
+decRow : (r s : Row) → Dec (r ≡ s)
+decRow r s = go (ℕ-discrete (r .key) (s .key)) (ℕ-discrete (r .bits) (s .bits))
+  where
+    go : Dec (r .key ≡ s .key) → Dec (r .bits ≡ s .bits) → Dec (r ≡ s)
+    go (yes e) (yes f) = yes (λ i. record { key = e i; bits = f i })
+    go (yes e) (no f) = no (λ q. f (ap (λ (x : Row). x .bits) q))
+    go (no e) d = no (λ q. e (ap (λ (x : Row). x .key) q))
+
+occurs-is : (r s : Row) (ss : List Row) → r ≡ s → occurs r (s ∷ ss) ≡ suc (occurs r ss)
+unfolding occurs
+occurs-is r s ss e =
+    rw (eq-eqb (r .key) (s .key) (ap (λ (x : Row). x .key) e), eq-eqb (r .bits) (s .bits) (ap (λ (x : Row). x .bits) e)) (omega arith)
+
+differ : (r s : Row) → (r ≡ s → ⊥) → Dec (r .key ≡ s .key) → equalRows r s ≡ false
+differ r s h (yes e) = rw (eq-eqb (r .key) (s .key) e, ne-eqb (r .bits) (s .bits) (λ f. h (λ i. record { key = e i; bits = f i })))
+differ r s h (no e) = rw (ne-eqb (r .key) (s .key) e)
+
+occurs-not : (r s : Row) (ss : List Row) → (r ≡ s → ⊥) → occurs r (s ∷ ss) ≡ occurs r ss
+unfolding occurs
+occurs-not r s ss h = rw (differ r s h (ℕ-discrete (r .key) (s .key))) (omega arith)
+
+occurs-permuted : (r : Row) {xs ys : List Row} → Permutation xs ys → occurs r xs ≡ occurs r ys
+unfolding occurs
+occurs-permuted r still = refl
+occurs-permuted r (skip {x = x} h) = ap (λ (n : ℕ). cond (equalRows r x) 1 0 + n) (occurs-permuted r h)
+occurs-permuted r (swap {x = x} {y = y} {xs = xs}) = omega arith
+occurs-permuted r (both h k) = occurs-permuted r h ∙ occurs-permuted r k
+
+-- a row that occurs can be brought to the front
+pull : (x : Row) (ys : List Row) → 0 < occurs x ys → (zs : List Row) × Permutation (x ∷ zs) ys
+unfolding occurs
+pull x [] h = absurd (omega arith)
+pull x (y ∷ ys) h = go (pull x ys) (decRow x y)
+  where
+    go : (0 < occurs x ys → (zs : List Row) × Permutation (x ∷ zs) ys) → Dec (x ≡ y) → (zs : List Row) × Permutation (x ∷ zs) (y ∷ ys)
+    go ih (yes e) = (ys, subst (λ (z : Row). Permutation (z ∷ ys) (y ∷ ys)) (sym e) still)
+    go ih (no e) = let p = ih (omega (arith, occurs-not x y ys e)) in (y ∷ p .0, both swap (skip (p .1)))
+
+-- one row less on both sides
+less-one : (x r : Row) (xs ys zs : List Row) → occurs r (x ∷ xs) ≡ occurs r ys → Permutation (x ∷ zs) ys → occurs r xs ≡ occurs r zs
+unfolding occurs
+less-one x r xs ys zs h p = omega (arith, occurs-permuted r p)
+
+permuted : (xs ys : List Row) → ((r : Row) → occurs r xs ≡ occurs r ys) → Permutation xs ys
+unfolding occurs
+permuted [] [] h = still
+permuted [] (y ∷ ys) h = absurd (omega (arith, h y, occurs-is y y ys refl))
+permuted (x ∷ xs) ys h = go (permuted xs) (pull x ys (omega (arith, h x, occurs-is x x xs refl)))
+  where
+    go : ((zs : List Row) → ((r : Row) → occurs r xs ≡ occurs r zs) → Permutation xs zs) → (zs : List Row) × Permutation (x ∷ zs) ys → Permutation (x ∷ xs) ys
+    go ih p = both (skip (ih (p .0) (λ r. less-one x r xs ys (p .0) (h r) (p .1)))) (p .1)
+
+-- ---- a permutation keeps each section
+module _ (k : ℕ) where
+  abbrev one : Row → Option Section
+  one x = sectionIf k (bitsOf k (x ∷ []))
+
+  cons : (x : Row) (xs : List Row) → sectionIf k (bitsOf k (x ∷ xs)) ≡ join (one x) (sectionIf k (bitsOf k xs))
+  cons x xs = ap (sectionIf k) (bits-append k (x ∷ []) xs) ∙ sym (join-sections k (bitsOf k (x ∷ [])) (bitsOf k xs))
+
+  two : (x y : Row) (xs : List Row) → sectionIf k (bitsOf k (x ∷ y ∷ xs)) ≡ join (join (one x) (one y)) (sectionIf k (bitsOf k xs))
+  two x y xs = cons x (y ∷ xs) ∙ ap (join (one x)) (cons y xs) ∙ sym (join-assoc (one x) (one y) (sectionIf k (bitsOf k xs)))
+
+  section-permuted : {xs ys : List Row} → Permutation xs ys → sectionIf k (bitsOf k xs) ≡ sectionIf k (bitsOf k ys)
+  section-permuted still = refl
+  section-permuted (skip {x = x} {xs = xs} {ys = ys} h) = cons x xs ∙ ap (join (one x)) (section-permuted h) ∙ sym (cons x ys)
+  section-permuted (swap {x = x} {y = y} {xs = xs}) =
+      two x y xs
+      ∙ ap (λ (o : Option Section). join o (sectionIf k (bitsOf k xs))) (join-comm k (bitsOf k (x ∷ [])) (bitsOf k (y ∷ [])))
+      ∙ sym (two y x xs)
+  section-permuted (both h l) = section-permuted h ∙ section-permuted l
+
+pub canonical-same : (xs ys : List Row) → SameRows xs ys → canonical xs ≡ canonical ys
+canonical-same xs ys h =
+    is-canonical (canonical xs) ys (canonical-rising xs) (λ k. find-canonical k xs ∙ section-permuted k (permuted xs ys (h .counts)))

@@ -1,0 +1,93 @@
+-- Worked examples, computed from the definitions: small lists of calls, and the tables that they leave.
+use Prim.Native.Nat.{ℕ}
+use mathlib.Core.Path.{_≡_, refl}
+use mathlib.Core.List.{List, [], _∷_, map}
+use lib.ListN.{replicate}
+use Rattle.codec.specs.Bytes.{number, bytes, numberAt}
+use Rattle.codec.specs.Cells.{cells, image}
+use Rattle.refusal.specs.Outcome.{accepted, refused}
+use Rattle.level.specs.Level.{topFrom, top, given, contribution, topOf, total}
+use Rattle.patch.specs.Rows.{Row, rowsFrom, columnsFit, rowsOf}
+use Rattle.record.specs.Section.{Section, sections, written, find, kept}
+use Rattle.finish.specs.Sum.{tooLarge, nearestDouble}
+use Rattle.finish.specs.Figure.{millFigure, beyond}
+use lib.Ieee.{binary64, ofBits, round}
+use lib.IntN.{pos}
+use Rattle.record.specs.Layout.{encode, decode}
+use Rattle.record.specs.Keys.{rising}
+use Rattle.record.specs.Sound.{soundHeld, isZero, soundRecord, soundRecords, sound}
+use Rattle.table.specs.Combine.{ofRow, levelOf, combine, absorb, merged, added}
+use Rattle.table.specs.Calls.{anyOf, addGrounds, mergeGrounds}
+use Rattle.history.specs.Rows.{bitsOf, insertKey, keysOf}
+use Rattle.history.specs.Canonical.{sectionOf, canonical}
+use Rattle.history.specs.Calls.{Call, add, merge, sum, figure, line, tooManyRows, tooManyKeys, addRowsGrounds, mergeRowsGrounds, stepRows, rowsAfter}
+use Rattle.history.specs.Demand3.{History}
+use Rattle.history.specs.Run.{Store, groupsAre, sumIs, figureIs, lineIs, step, tablesAfter, answer, answers}
+
+-- tables in buffers of 128 bytes: room for two sections
+abbrev first : List ℕ
+first = replicate 128 255
+
+abbrev start : ℕ → Store
+start i = record { bytes = first; groups = 0 }
+
+-- an add to table i of rows given by their keys and bits
+abbrev addTo : ℕ → List ℕ → List ℕ → Call
+addTo i ks vs = add i (image (bytes 4) ks) (image (bytes 8) vs) 128
+
+-- an add that is refused, since three key bytes are no column
+abbrev refusedAdd : Call
+refusedAdd = add 0 (7 ∷ 0 ∷ 0 ∷ []) [] 128
+
+-- 1 and 2^60 in section 7, the smallest double in section 3
+abbrev rows : List Row
+rows = record { key = 7; bits = 0x3FF0000000000000 } ∷ record { key = 3; bits = 1 } ∷ record { key = 7; bits = 0x43B0000000000000 } ∷ []
+
+-- what a list of calls leaves in table 0
+left : List Call → Store
+unfolding tablesAfter step answers answer addGrounds mergeGrounds sound rising cells soundRecords soundRecord soundHeld isZero columnsFit image bytes anyOf rowsOf rowsFrom number numberAt added merged absorb combine levelOf ofRow top topFrom given contribution encode decode
+left cs = tablesAfter start cs 0
+
+-- the same rows in one add, in another order, in two adds, merged from another table, merged the other way round, and with a refused add between
+abbrev ways : List (List Call)
+ways =
+    (addTo 0 (7 ∷ 3 ∷ 7 ∷ []) (0x3FF0000000000000 ∷ 1 ∷ 0x43B0000000000000 ∷ []) ∷ [])
+    ∷ (addTo 0 (7 ∷ 7 ∷ 3 ∷ []) (0x43B0000000000000 ∷ 0x3FF0000000000000 ∷ 1 ∷ []) ∷ [])
+    ∷ (addTo 0 (7 ∷ []) (0x3FF0000000000000 ∷ []) ∷ addTo 0 (7 ∷ 3 ∷ []) (0x43B0000000000000 ∷ 1 ∷ []) ∷ [])
+    ∷ (addTo 0 (7 ∷ []) (0x3FF0000000000000 ∷ []) ∷ addTo 1 (7 ∷ 3 ∷ []) (0x43B0000000000000 ∷ 1 ∷ []) ∷ merge 0 1 tt ∷ [])
+    ∷ (addTo 1 (7 ∷ []) (0x3FF0000000000000 ∷ []) ∷ addTo 0 (7 ∷ 3 ∷ []) (0x43B0000000000000 ∷ 1 ∷ []) ∷ merge 0 1 tt ∷ [])
+    ∷ (addTo 0 (7 ∷ []) (0x3FF0000000000000 ∷ []) ∷ refusedAdd ∷ addTo 0 (7 ∷ 3 ∷ []) (0x43B0000000000000 ∷ 1 ∷ []) ∷ [])
+    ∷ []
+
+one-table : map left ways ≡ replicate 6 (record { bytes = written (canonical rows) first; groups = 2 })
+unfolding left canonical keysOf insertKey bitsOf sectionOf topOf total
+one-table = refl
+
+-- a table merged twice counts twice, in the rows and in the record
+abbrev twice : List Call
+twice = addTo 0 (7 ∷ []) (1 ∷ []) ∷ addTo 1 (7 ∷ []) (2 ∷ []) ∷ merge 0 1 tt ∷ merge 0 1 tt ∷ []
+
+-- as a way of working: its columns hold bytes
+example : History
+unfolding left
+example = record { start = λ (i : ℕ). first; calls = twice; lent = refl }
+
+rows-twice : map (λ (r : Row). r .bits) (rowsAfter (λ (i : ℕ). 128) (λ (i : ℕ). []) twice 0) ≡ 1 ∷ 2 ∷ 2 ∷ []
+unfolding left rowsAfter stepRows mergeRowsGrounds tooManyRows keysOf addRowsGrounds insertKey bitsOf tooManyKeys
+rows-twice = refl
+
+count-twice : map (λ (t : Section). t .count) (sections (left twice .bytes) 1) ≡ 3 ∷ []
+unfolding left
+count-twice = refl
+
+-- answers: a refusal's number, or the new group count
+numbers : answers start (refusedAdd ∷ addTo 0 (7 ∷ 3 ∷ []) (1 ∷ 2 ∷ []) ∷ addTo 0 (5 ∷ []) (1 ∷ []) ∷ addTo 0 (3 ∷ []) (0x7FF0000000000000 ∷ []) ∷ [])
+    ≡ groupsAre (refused 9) ∷ groupsAre (accepted 2) ∷ groupsAre (refused 12) ∷ groupsAre (refused 10) ∷ []
+unfolding left
+numbers = refl
+
+-- B10 in a table: 2^60, 1 and -2^60 sum to 1; mill figure 100; section 8 is absent
+finished : answers start (addTo 0 (7 ∷ 7 ∷ 7 ∷ []) (0x43B0000000000000 ∷ 0x3FF0000000000000 ∷ 0xC3B0000000000000 ∷ []) ∷ sum 0 7 ∷ figure 0 7 ∷ line 0 8 ∷ [])
+    ≡ groupsAre (accepted 1) ∷ sumIs (accepted (ofBits binary64 0x3FF0000000000000)) ∷ figureIs (accepted (pos 100)) ∷ lineIs (refused 13) ∷ []
+unfolding left find kept tooLarge nearestDouble millFigure beyond ofBits round
+finished = refl

@@ -1,0 +1,40 @@
+-- What is read off a list of rows: how often each occurs, the sections they name, the bits and the largest size of a section's rows.
+use Prim.Native.Nat.{ℕ, _+_, max}
+use mathlib.Core.Path.{_≡_}
+use mathlib.Core.Bool.{Bool, cond, _&&_}
+use mathlib.Core.List.{List, [], _∷_}
+use lib.Dec.{ltb, eqb}
+use Rattle.level.specs.Double.{size}
+use Rattle.patch.specs.Rows.{Row}
+
+abbrev pub equalRows : Row → Row → Bool
+equalRows r s = eqb (r .key) (s .key) && eqb (r .bits) (s .bits)
+
+-- how often r stands among the rows
+unfoldable pub occurs : Row → List Row → ℕ
+occurs r [] = 0
+occurs r (s ∷ ss) = cond (equalRows r s) 1 0 + occurs r ss
+
+-- the same rows, repeats counted
+pub record SameRows (xs ys : List Row) : Type 0 where
+  pub counts : (r : Row) → occurs r xs ≡ occurs r ys
+
+-- the bits of section k's rows
+unfoldable pub bitsOf : ℕ → List Row → List ℕ
+bitsOf k [] = []
+bitsOf k (r ∷ rs) = cond (eqb k (r .key)) (r .bits ∷ bitsOf k rs) (bitsOf k rs)
+
+-- k put in its place among rising numbers, unless it is there
+unfoldable pub insertKey : ℕ → List ℕ → List ℕ
+insertKey k [] = k ∷ []
+insertKey k (l ∷ ls) = cond (ltb k l) (k ∷ l ∷ ls) (cond (eqb k l) (l ∷ ls) (l ∷ insertKey k ls))
+
+-- the distinct section numbers of the rows, rising
+unfoldable pub keysOf : List Row → List ℕ
+keysOf [] = []
+keysOf (r ∷ rs) = insertKey (r .key) (keysOf rs)
+
+-- the size of the largest row
+unfoldable pub largest : List ℕ → ℕ
+largest [] = 0
+largest (b ∷ bs) = max (size b) (largest bs)

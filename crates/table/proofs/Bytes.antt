@@ -1,0 +1,150 @@
+-- Sections in bytes: what is written is read back, and is a sound table.
+use Prim.Native.Nat.{ℕ, zero, suc, _+_, _-_, _*_, _^_, _≤_, _<_}
+use mathlib.Core.Path.{_≡_, refl, _∙_, ap, ap₂}
+use mathlib.Core.Bool.{true, _||_}
+use mathlib.Core.List.{List, [], _∷_, _++_, map, append-assoc}
+use native.Mathlib.Omega.{arith}
+use native.Mathlib.Nat.{mul-comm}
+use native.Mathlib.Decide.{decLe}
+use borrow.Author.Tests.{lt-ltb, le-leb, lt-leb}
+use lib.Dec.{leb}
+use lib.ListN.{length, drop, length-append, length-drop}
+use lib.Seq.{drop-append-add, drop-drop}
+use lib.IntN.{ℤ, pos, negsuc, natAbs}
+use mir.Syntax.{w64}
+use mir.Val.{SFits}
+use Rattle.codec.specs.Cells.{cells, image}
+use Rattle.codec.proofs.Cells.{cells-cons, length-image}
+use Rattle.level.specs.Carry.{carryOf, residueOf, heldOf}
+use Rattle.level.proofs.Carry.{residue-lt, held}
+use Rattle.record.specs.Layout.{encode, decode, records, capacity}
+use Rattle.record.specs.Keys.{keys, rising}
+use Rattle.record.specs.Sound.{soundHeld, isZero, soundRecord, soundRecords, sound}
+use Rattle.record.specs.Section.{Section, meaning, recordOf, sections, sectionBytes, written}
+use Rattle.record.proofs.Laws.{length-encode, HeldInRange, InRange, decode-encode}
+use Rattle.table.proofs.Lists.{All}
+use Rattle.table.proofs.Lookup.{Above, Rising, keysIn}
+use Rattle.table.proofs.Proper.{Proper}
+
+-- a section whose record is sound
+pub record Fits (s : Section) : Type 0 where
+  pub proper : Proper s
+  pub few : s .count ≤ 4294967295
+
+-- ---- one record
+pub meaning-record : (s : Section) → meaning (recordOf s) ≡ s
+meaning-record s = λ i. record {
+  key = s .key;
+  count = s .count;
+  top = s .top;
+  high = held (s .high) i;
+  middle = held (s .middle) i;
+  low = held (s .low) i;
+}
+
+carry-fits : (z : ℤ) → natAbs z ≤ 2 ^ 71 → SFits w64 (carryOf z)
+carry-fits (pos n) h = record { sfits = omega arith }
+carry-fits (negsuc n) h = record { sfits = omega arith }
+
+held-in-range : (z : ℤ) → natAbs z ≤ 2 ^ 71 → HeldInRange (heldOf z)
+held-in-range z h = record { residue = omega (arith, residue-lt z); carry = carry-fits z h }
+
+in-range : (s : Section) → Fits s → InRange (recordOf s)
+in-range s f =
+    let p = f .proper in
+    let few = f .few in
+    record {
+      key = p .key;
+      count = omega arith;
+      top = omega (arith, p .top);
+      zero = omega arith;
+      high = held-in-range (s .high) (omega (arith, p .high));
+      middle = held-in-range (s .middle) (omega (arith, p .middle));
+      low = held-in-range (s .low) (omega (arith, p .low));
+    }
+
+sound-held : (n : ℕ) (z : ℤ) → natAbs z ≤ n * 2 ^ 39 → soundHeld n (heldOf z) ≡ true
+unfolding soundHeld
+sound-held n z h = rw (lt-ltb (residueOf z) (2 ^ 50) (residue-lt z), held z) (le-leb (natAbs z) (n * 2 ^ 39) h)
+
+none-below : (i t : ℕ) (z : ℤ) → (t < i → z ≡ pos 0) → (leb i t || isZero (heldOf z)) ≡ true
+unfolding isZero
+none-below i t z h = go (decLe i t)
+  where
+    go : Dec (i ≤ t) → (leb i t || isZero (heldOf z)) ≡ true
+    go (yes l) = rw (le-leb i t l)
+    go (no l) = rw (lt-leb i t (omega arith), h (omega arith))
+
+sound-record : (s : Section) → Proper s → soundRecord (recordOf s) ≡ true
+unfolding soundRecord
+sound-record s p =
+    rw (
+      le-leb 1 (s .count) (p .count),
+      le-leb (s .top) 52 (p .top),
+      sound-held (s .count) (s .high) (p .high),
+      sound-held (s .count) (s .middle) (p .middle),
+      sound-held (s .count) (s .low) (p .low),
+      none-below 1 (s .top) (s .middle) (p .second),
+    )
+    (none-below 2 (s .top) (s .low) (p .third))
+
+-- ---- a whole table
+pub records-read : (ts : List Section) (rest : List ℕ) → All Fits ts → records (sectionBytes ts ++ rest) (length ts) ≡ map recordOf ts
+unfolding cells image
+records-read [] rest a = refl
+records-read (t ∷ ts) rest a =
+    ap (cells 64 decode (suc (length ts))) (append-assoc (encode (recordOf t)) (sectionBytes ts) rest)
+    ∙ cells-cons 64 decode (length ts) (encode (recordOf t)) (sectionBytes ts ++ rest) (length-encode (recordOf t))
+    ∙ ap₂ _∷_ (decode-encode (recordOf t) (in-range t (a .0))) (records-read ts rest (a .1))
+
+meanings : (ts : List Section) → map meaning (map recordOf ts) ≡ ts
+meanings [] = refl
+meanings (t ∷ ts) = ap₂ _∷_ (meaning-record t) (meanings ts)
+
+pub sections-written : (ts : List Section) (s : List ℕ) → All Fits ts → sections (written ts s) (length ts) ≡ ts
+sections-written ts s a = ap (map meaning) (records-read ts (drop (64 * length ts) s) a) ∙ meanings ts
+
+pub length-sectionBytes : (ts : List Section) → length (sectionBytes ts) ≡ 64 * length ts
+length-sectionBytes ts = length-image 64 (λ (t : Section). encode (recordOf t)) (λ t. length-encode (recordOf t)) ts ∙ mul-comm (length ts) 64
+
+pub length-written : (ts : List Section) (s : List ℕ) → length ts ≤ capacity (length s) → length (written ts s) ≡ length s
+length-written ts s h =
+    length-append (sectionBytes ts) (drop (64 * length ts) s)
+    ∙ rw (length-sectionBytes ts, length-drop (64 * length ts) s) (omega arith)
+
+-- a longer table written over a shorter one
+drop-past : (e s : List ℕ) (a b : ℕ) → length e ≡ b → b ≤ a → drop a (e ++ drop b s) ≡ drop a s
+drop-past e s a b h l =
+    let p : a ≡ length e + (a - b) = omega arith in
+    let q : b + (a - b) ≡ a = omega arith in
+    ap (λ (n : ℕ). drop n (e ++ drop b s)) p ∙ drop-append-add e (drop b s) (a - b) ∙ drop-drop (a - b) b s ∙ ap (λ (n : ℕ). drop n s) q
+
+pub written-over : (ts us : List Section) (s : List ℕ) → length ts ≤ length us → written us (written ts s) ≡ written us s
+written-over ts us s h =
+    ap (λ (l : List ℕ). sectionBytes us ++ l) (drop-past (sectionBytes ts) s (64 * length us) (64 * length ts) (length-sectionBytes ts) (omega arith))
+
+rising-above : (k : ℕ) (ts : List Section) → Above k (keysIn ts) → rising (k ∷ keys (map recordOf ts)) ≡ true
+unfolding rising
+rising-above k [] a = refl
+rising-above k (t ∷ ts) a = rw (lt-ltb k (t .key) (a .0)) (rising-above (t .key) ts (a .1))
+
+rising-records : (ts : List Section) → Rising (keysIn ts) → rising (keys (map recordOf ts)) ≡ true
+unfolding rising
+rising-records [] a = refl
+rising-records (t ∷ ts) a = rising-above (t .key) ts a
+
+sound-records : (ts : List Section) → All Fits ts → soundRecords (map recordOf ts) ≡ true
+unfolding soundRecords
+sound-records [] a = refl
+sound-records (t ∷ ts) a = rw (sound-record t (a .0 .proper)) (sound-records ts (a .1))
+
+pub sound-written : (ts : List Section) (s : List ℕ) → All Fits ts → Rising (keysIn ts) → length ts ≤ capacity (length s) → sound (written ts s) (length ts) ≡ true
+unfolding sound
+sound-written ts s a r h =
+    rw (
+      length-written ts s h,
+      le-leb (length ts) (capacity (length s)) h,
+      records-read ts (drop (64 * length ts) s) a,
+      rising-records ts r,
+    )
+    (sound-records ts a)
