@@ -1,6 +1,6 @@
 -- The mill figure of a float, from its bits: the figure depends on the fraction alone.
-use mathlib.Core.Path.{_≡_, refl, sym, ap, _∙_}
-use mathlib.Core.Bool.{Bool, true, false, not, cond}
+use mathlib.Core.Path.{_≡_, sym, ap, _∙_}
+use mathlib.Core.Bool.{Bool, true, not, cond}
 use Prim.Native.Nat.{ℕ, _+_, _-_, _*_, _^_, _≤_, _<_}
 use native.Mathlib.Nat.{le-trans, le-of-eq, le-add-right, mul-le-mul, mul-right-comm, lt-irrefl}
 use native.Mathlib.Omega.{arith}
@@ -8,7 +8,7 @@ use lib.Dec.{T}
 use lib.Pow.{pow-add, pow-pos, pow-mono}
 use lib.Ieee.{Float, nan, inf, fin, binary64, up, down, ofBits, toBits, fits, isNan}
 use lib.Ieee.Fits.{down-pos}
-use lib.Ieee.Bits.{ofBits-toBits, toBits-lt}
+use lib.Ieee.Bits.{ofBits-toBits, toBits-lt, is-true}
 use lib.Ieee.Exact.{HasValue}
 use lib.Ieee.Scale as Scale
 use Rattle.refusal.specs.Outcome.{accepted, refused}
@@ -34,17 +34,13 @@ number nan h = h
 number (inf s) h = tt
 number (fin s m e) h = tt
 
-T-true : (b : Bool) → T b → b ≡ true
-T-true true h = refl
-T-true false h = absurd h
-
 -- a finite float, by its bits
 module _ (x : Float) (f : T (fits binary64 x)) (h : T (Scale.finite x)) where
-  bits-figure : millFigure x ≡ signed (negative (toBits binary64 x)) (halved (negative (toBits binary64 x)) (size (toBits binary64 x) * 200) (2 ^ 1074))
+  pub bits-figure : millFigure x ≡ signed (negative (toBits binary64 x)) (halved (negative (toBits binary64 x)) (size (toBits binary64 x) * 200) (2 ^ 1074))
   bits-figure =
       let b = toBits binary64 x in
       let e = ofBits-toBits binary64 x f in
-      let g : finite b ≡ true = sym (finite-binary64 b) ∙ ap Scale.finite e ∙ T-true (Scale.finite x) h in
+      let g : finite b ≡ true = sym (finite-binary64 b) ∙ ap Scale.finite e ∙ is-true (Scale.finite x) h in
       ap millFigure (sym e) ∙ value-figure (ofBits binary64 b) (negative b) (size b) (value-binary64 b (toBits-lt binary64 x f) g)
 
   -- where its field is at most 1074

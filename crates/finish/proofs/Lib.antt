@@ -10,5 +10,6 @@ pub mod Sums
 pub mod Nearest
 pub mod Hundredths
 pub mod Fraction
+pub mod Halves
 pub mod Tables
 pub mod Outcomes

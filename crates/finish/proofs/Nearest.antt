@@ -6,13 +6,13 @@ use Prim.Native.Nat.{ℕ, zero, suc, _+_, _-_, _*_, _/_, _%_, _^_, _≤_, _<_}
 use native.Mathlib.Nat.{le-trans, le-of-eq, lt-irrefl, mul-assoc, mul-le-mul-right, mul-lt-mul-of-pos-right, eq-of-mul-eq-mul-right, mod-lt, div-add-mod', le-div-iff-mul-le}
 use native.Mathlib.Omega.{arith}
 use borrow.Author.Tests.{leb-false}
-use lib.Dec.{T, ltb, eqb}
+use lib.Dec.{ltb, eqb}
 use lib.Arith.{lt-of-le-ne}
 use lib.Pow.{pow-add, pow-pos, pow-mono}
 use lib.IntN.{ℤ, pos, negsuc, natAbs, _-ℤ_}
 use lib.Signed.{nonNeg}
 use lib.Ieee.{Float, nan, inf, fin, binary64, down, ofBits, toBits, round}
-use lib.Ieee.Bits.{ofBits-toBits, toBits-lt}
+use lib.Ieee.Bits.{ofBits-toBits, toBits-lt, is-true}
 use lib.Ieee.Fits.{down-pos, round-fits}
 use lib.Ieee.Exact.{HasValue}
 use lib.Ieee.Nearest.{closest}
@@ -24,15 +24,9 @@ use Rattle.level.proofs.Signs.{sub-signed, natAbs-signed}
 use Rattle.level.proofs.Double.{significand-lt}
 use Rattle.level.proofs.Near.{closest-cases, pow-sum}
 use Rattle.level.proofs.Binary64.{finite-binary64, value-binary64}
-use Rattle.finish.specs.Sum.{limit, nearestDouble, tooLarge}
+use Rattle.finish.specs.Sum.{limit, nearestDouble, tooLarge, Nearest}
 use Rattle.finish.specs.Limbs.{dropped, nearby}
 use Rattle.finish.proofs.Pattern.{le-or-lt, reaches, limit-value, limit-number, limit-finite, pattern-bits}
-
--- The double with the bits b is finite, no finite double is nearer to k units of 2^-1074, and where another one is as near, its significand is even.
-pub record Nearest (k : ℤ) (b : ℕ) : Type 0 where
-  pub number : finite b ≡ true
-  pub near : (c : ℕ) → finite c ≡ true → natAbs (k -ℤ value b) ≤ natAbs (k -ℤ value c)
-  pub even : (c : ℕ) → finite c ≡ true → (value c ≡ value b → ⊥) → natAbs (k -ℤ value b) ≡ natAbs (k -ℤ value c) → significand b % 2 ≡ 0
 
 -- ---- the number of units nearest to n among all numbers of units
 
@@ -199,10 +193,6 @@ pattern-even : (s : Bool) (d q : ℕ) → q % 2 ≡ 0 → (cond s (2 ^ 63) 0 + (
 pattern-even true d q e = omega arith
 pattern-even false d q e = omega arith
 
-T-true : (b : Bool) → T b → b ≡ true
-T-true true h = refl
-T-true false h = absurd h
-
 module _ (s : Bool) (n : ℕ) (h : n < limit) where
   abbrev x : Float
   x = round binary64 s n (2 ^ 1074)
@@ -214,7 +204,7 @@ module _ (s : Bool) (n : ℕ) (h : n < limit) where
   back = ofBits-toBits binary64 x (round-fits binary64 s n (2 ^ 1074))
 
   bits-finite : finite bits ≡ true
-  bits-finite = sym (finite-binary64 bits) ∙ ap Scale.finite back ∙ T-true (Scale.finite x) (limit-number s n h)
+  bits-finite = sym (finite-binary64 bits) ∙ ap Scale.finite back ∙ is-true (Scale.finite x) (limit-number s n h)
 
   bits-value : (negative bits ≡ s) × (size bits ≡ nearby n * 2 ^ dropped n)
   bits-value =

@@ -1,5 +1,5 @@
 -- The figure and the line, from the sum.
-use mathlib.Core.Path.{_≡_, refl, ap}
+use mathlib.Core.Path.{_≡_, refl, ap, subst}
 use mathlib.Core.Bool.{Bool, true, false, cond}
 use mathlib.Core.List.{List, [], _∷_}
 use mathlib.Core.Option.{Option, none, some}
@@ -11,13 +11,16 @@ use lib.IntN.{ℤ}
 use lib.Ieee.{Float}
 use lib.Ieee.Scale.{finite}
 use Rattle.refusal.specs.Outcome.{Outcome, accepted, refused, ground, outcome}
-use Rattle.record.specs.Sound.{sound}
-use Rattle.record.specs.Section.{Section, kept, sections, find}
+use Rattle.record.specs.Sound.{sound, soundRecord}
+use Rattle.record.specs.Section.{Section, kept, meaning, sections, find}
 use Rattle.finish.specs.Sum.{nearestDouble, tooLarge}
 use Rattle.finish.specs.Figure.{beyond}
 use Rattle.finish.specs.Finish.{sumOf, figureFor, figureOf, lineFor, lineOf, finishing, sumOutcome, figureOutcome}
 use Rattle.finish.specs.Answer.{sumAnswer}
-use Rattle.finish.specs.Steps.{sumFor, FiniteSum, figureBy, lineBy}
+use Rattle.finish.specs.Steps.{LookedUp, sumFor, FiniteSum, figureBy, lineBy}
+use Rattle.record.specs.declared.Record.{Record}
+use Rattle.finish.specs.declared.Lookup.{Lookup}
+use Rattle.finish.specs.declared.Lookup.the-variants.{Found, Missing, Unsound}
 use Rattle.finish.specs.declared.SectionSum.{SectionSum}
 use Rattle.finish.specs.declared.SectionSum.the-variants.{Finite, Absent, TooLarge, NotSound}
 use Rattle.finish.proofs.Sums.{nearest-finite}
@@ -96,10 +99,26 @@ pub withheld : {A : Type 0} (a : A) (b : Bool) (x : ℤ) (n : ℕ) → refused n
 withheld a true x n e = let q : n ≡ 15 = cc in ap refused q
 withheld a false x n e = never (cc)
 
--- ---- on a table
+-- ---- on a table, by what a lookup says of it
 
-pub at-section : {A : Type 0} (f : Option Section → Outcome A) (s : List ℕ) (g k : ℕ) (o : Option Section) → sound s g ≡ true → find k (sections s g) ≡ o → finishing f s g k ≡ f o
+at-section : {A : Type 0} (f : Option Section → Outcome A) (s : List ℕ) (g k : ℕ) (o : Option Section) → sound s g ≡ true → find k (sections s g) ≡ o → f o ≡ finishing f s g k
 at-section f s g k o h e = rw (h, e)
 
-pub not-sound : {A : Type 0} (f : Option Section → Outcome A) (s : List ℕ) (g k : ℕ) → sound s g ≡ false → finishing f s g k ≡ refused 7
+not-sound : {A : Type 0} (f : Option Section → Outcome A) (s : List ℕ) (g k : ℕ) → sound s g ≡ false → refused 7 ≡ finishing f s g k
 not-sound f s g k h = rw h
+
+module _ (a : Lookup) (s : List ℕ) (g k : ℕ) (l : LookedUp a s g k) where
+  says : {b : Lookup} → a ≡ b → LookedUp b s g k
+  says e = subst (λ (b : Lookup). LookedUp b s g k) e l
+
+  pub found-sound : (r : Record) → a ≡ Found r → T (soundRecord r)
+  found-sound r e = says e .2
+
+  pub when-found : {A : Type 0} (f : Option Section → Outcome A) (r : Record) → a ≡ Found r → f (some (meaning r)) ≡ finishing f s g k
+  when-found f r e = at-section f s g k (some (meaning r)) (says e .0) (says e .1)
+
+  pub when-missing : {A : Type 0} (f : Option Section → Outcome A) → a ≡ Missing → f none ≡ finishing f s g k
+  when-missing f e = at-section f s g k none (says e .0) (says e .1)
+
+  pub when-unsound : {A : Type 0} (f : Option Section → Outcome A) → a ≡ Unsound → refused 7 ≡ finishing f s g k
+  when-unsound f e = not-sound f s g k (says e)

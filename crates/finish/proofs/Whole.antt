@@ -100,7 +100,7 @@ sign-is (pos n) false c m l h e = refl
 sign-is (negsuc n) true c m l h e = refl
 sign-is (negsuc n) false c m l h e = let g = simp ints at e in let p = mul-pos {m = suc n} {n = c} (omega arith) l in absurd (lt-irrefl 0 (omega arith))
 
-signed-mul : (s : Bool) (v u : ℕ) → signed s v *ℤ pos u ≡ signed s (v * u)
+pub signed-mul : (s : Bool) (v u : ℕ) → signed s v *ℤ pos u ≡ signed s (v * u)
 signed-mul false v u = refl
 signed-mul true v u = negℤ-*ℤ (pos v) (pos u)
 

@@ -1,9 +1,10 @@
 -- The mill figure of a sum.
-use Prim.Native.Nat.{_+_, _*_}
+use Prim.Native.Nat.{_+_, _*_, _^_, _≤_}
+use mathlib.Core.Path.{_≡_}
 use mathlib.Core.Bool.{Bool}
 use lib.Dec.{ltb}
-use lib.IntN.{ℤ, pos, natAbs, _+ℤ_}
-use lib.Signed.{shrZ}
+use lib.IntN.{ℤ, pos, natAbs, _+ℤ_, _-ℤ_, _*ℤ_}
+use lib.Signed.{shrZ, _≤ℤ_}
 use lib.Ieee.{Float, nan, inf, fin, up, down}
 use Rattle.level.specs.Double.{signed}
 
@@ -14,6 +15,12 @@ millFigure nan = pos 0
 millFigure (inf s) = pos 0
 millFigure (fin s m e) = shrZ (signed s (m * up e * 200) +ℤ pos (down e)) (down e + down e)
 
--- whether a figure is beyond 2,147,483,647 in size
+-- document 01's condition 15: a figure beyond 2,147,483,647 in size
 unfoldable pub beyond : ℤ → Bool
 beyond z = ltb 2147483647 (natAbs z)
+
+-- what "nearest, an exact half going up" means, apart from how it is found: no whole number is nearer than z to 100 times v units of 2^-1074, and
+-- where another one is as near, z is the larger
+pub record HalfUp (v z : ℤ) : Type 0 where
+  pub near : (w : ℤ) → natAbs (v *ℤ pos 100 -ℤ z *ℤ pos (2 ^ 1074)) ≤ natAbs (v *ℤ pos 100 -ℤ w *ℤ pos (2 ^ 1074))
+  pub up : (w : ℤ) → natAbs (v *ℤ pos 100 -ℤ z *ℤ pos (2 ^ 1074)) ≡ natAbs (v *ℤ pos 100 -ℤ w *ℤ pos (2 ^ 1074)) → w ≤ℤ z

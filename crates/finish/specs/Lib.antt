@@ -5,3 +5,4 @@ pub mod Finish
 pub mod Answer
 pub mod Limbs
 pub mod Steps
+pub mod Cases

@@ -29,6 +29,7 @@ pub enum SectionSum {
     NotSound,
 }
 
+// A section's mill figure, or why there is none.
 pub enum FigureAnswer {
     Figure(i32),
     Refused(Refusal),
@@ -42,6 +43,7 @@ pub struct FinishedLine {
     pub figure: i32,
 }
 
+// A section's finished line, or why there is none.
 pub enum LineAnswer {
     Line(FinishedLine),
     Refused(Refusal),
@@ -50,7 +52,7 @@ pub enum LineAnswer {
 // The kept value stands in four limbs of 40 binary digits, the lowest first; limb i counts level t - 2 + i.
 const LIMB: u64 = 1 << 40;
 
-// The carry plus 2^22, which is not negative.
+// The carry raised by 2^22, and so a total by 2^72: none is negative then.
 fn raised_carry(c: i64) -> u64
     requires { ⌜ natAbs c < 2 ^ 22 ⌝ }
     ensures { λ r. ⌜ (r ≡ raisedCarry c) × (r < 2 ^ 23) ⌝ }

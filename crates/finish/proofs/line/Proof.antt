@@ -1,13 +1,10 @@
-use Rattle.finish.proofs.Outcomes.{finite-for, sum-for, line-by, at-section, not-sound}
+use Rattle.finish.proofs.Outcomes.{finite-for, sum-for, line-by, found-sound, when-found, when-missing, when-unsound}
 use mathlib.Core.Path.{sym, ap, _∙_, subst}
-use mathlib.Core.Option.{none, some}
 use denote.Ref.{now}
 use Rattle.record.specs.Section.{meaning, kept}
 use Rattle.finish.specs.Finish.{lineOf}
 use Rattle.finish.specs.Answer.{sumAnswer}
-use Rattle.finish.specs.Steps.{LookedUp, FiniteSum, lineBy}
-use Rattle.finish.specs.declared.Lookup.{Lookup}
-use Rattle.finish.specs.declared.Lookup.the-variants.{Found}
+use Rattle.finish.specs.Steps.{FiniteSum, lineBy}
 use Rattle.finish.specs.declared.SectionSum.{SectionSum}
 use borrow.Author.Needs.{needs}
 use Rattle.finish.proofs.line.Statement.{statement}
@@ -19,13 +16,11 @@ look-up-requires c κs = search needs
 enum-known-r : tie.Need-enum-known-r
 enum-known-r c = search needs
 
-looked : (c : tie.After-known-told) → let s = c .before .before .before .before .before .args in LookedUp (Found (c .before .r .given .0 .0)) (now (s .table)) (s .g) (s .key)
-looked c =
-    let s = c .before .before .before .before .before .args in
-    subst (λ (a : Lookup). LookedUp a (now (s .table)) (s .g) (s .key)) (c .before .r .given .1) (c .before .before .before .look-up .ensures)
-
 record-sum-requires : tie.Need-record-sum-requires
-record-sum-requires c κs = looked c .2
+record-sum-requires c κs =
+    let l = c .before .before .before .look-up in
+    let s = c .before .before .before .before .before .args in
+    found-sound (l .result) (now (s .table)) (s .g) (s .key) (l .ensures) (c .before .r .given .0 .0) (c .before .r .given .1)
 
 line-by-requires : tie.Need-line-by-requires
 line-by-requires c κs = subst FiniteSum (sym (c .record-sum .ensures)) (finite-for (kept (meaning (c .before .before .r .given .0 .0))))
@@ -38,25 +33,27 @@ enum-told-2 c = search needs
 
 returns : tie.Need-returns
 returns c =
+    let l = c .before .before .before .before .before .look-up in
     let s = c .before .before .before .before .before .before .before .args in
-    let r = c .before .before .before .r .given .0 .0 in
-    let l = looked (c .before .before) in
+    let r = c .before .before .before .r .given in
+    let m = meaning (r .0 .0) in
     c .line-by .ensures
-    ∙ ap (λ (t : SectionSum). lineBy (r .key) (r .count) (sumAnswer t)) (c .before .record-sum .ensures)
-    ∙ ap (lineBy (r .key) (r .count)) (sum-for (meaning r))
-    ∙ sym (at-section lineOf (now (s .table)) (s .g) (s .key) (some (meaning r)) (l .0) (l .1) ∙ line-by (meaning r))
+    ∙ ap (λ (t : SectionSum). lineBy (m .key) (m .count) (sumAnswer t)) (c .before .record-sum .ensures)
+    ∙ ap (lineBy (m .key) (m .count)) (sum-for m)
+    ∙ sym (line-by m)
+    ∙ when-found (l .result) (now (s .table)) (s .g) (s .key) (l .ensures) lineOf (r .0 .0) (r .1)
 
 returns-2 : tie.Need-returns-2
 returns-2 c =
+    let l = c .before .before .look-up in
     let s = c .before .before .before .before .args in
-    let l = subst (λ (a : Lookup). LookedUp a (now (s .table)) (s .g) (s .key)) (c .enum-told .given .1) (c .before .before .look-up .ensures) in
-    sym (at-section lineOf (now (s .table)) (s .g) (s .key) none (l .0) (l .1))
+    when-missing (l .result) (now (s .table)) (s .g) (s .key) (l .ensures) lineOf (c .enum-told .given .1)
 
 returns-3 : tie.Need-returns-3
 returns-3 c =
+    let l = c .before .before .look-up in
     let s = c .before .before .before .before .args in
-    let l = subst (λ (a : Lookup). LookedUp a (now (s .table)) (s .g) (s .key)) (c .enum-told2 .given .1) (c .before .before .look-up .ensures) in
-    sym (not-sound lineOf (now (s .table)) (s .g) (s .key) l)
+    when-unsound (l .result) (now (s .table)) (s .g) (s .key) (l .ensures) lineOf (c .enum-told2 .given .1)
 
 pub line-spec : {M : Type 1} → statement M
 line-spec =

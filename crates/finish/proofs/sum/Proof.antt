@@ -1,13 +1,9 @@
-use Rattle.finish.proofs.Outcomes.{sum-for, at-section, not-sound}
-use mathlib.Core.Path.{sym, ap, _∙_, subst}
-use mathlib.Core.Option.{none, some}
+use Rattle.finish.proofs.Outcomes.{sum-for, found-sound, when-found, when-missing, when-unsound}
+use mathlib.Core.Path.{ap, _∙_}
 use denote.Ref.{now}
 use Rattle.record.specs.Section.{meaning}
 use Rattle.finish.specs.Finish.{sumOf}
 use Rattle.finish.specs.Answer.{sumAnswer}
-use Rattle.finish.specs.Steps.{LookedUp}
-use Rattle.finish.specs.declared.Lookup.{Lookup}
-use Rattle.finish.specs.declared.Lookup.the-variants.{Found}
 use borrow.Author.Needs.{needs}
 use Rattle.finish.proofs.sum.Statement.{statement}
 use Rattle.finish.proofs.sum.Tie as tie
@@ -18,13 +14,11 @@ look-up-requires c κs = search needs
 enum-known-r : tie.Need-enum-known-r
 enum-known-r c = search needs
 
-looked : (c : tie.After-known-told) → let s = c .before .before .before .before .before .args in LookedUp (Found (c .before .r .given .0 .0)) (now (s .table)) (s .g) (s .key)
-looked c =
-    let s = c .before .before .before .before .before .args in
-    subst (λ (a : Lookup). LookedUp a (now (s .table)) (s .g) (s .key)) (c .before .r .given .1) (c .before .before .before .look-up .ensures)
-
 record-sum-requires : tie.Need-record-sum-requires
-record-sum-requires c κs = looked c .2
+record-sum-requires c κs =
+    let l = c .before .before .before .look-up in
+    let s = c .before .before .before .before .before .args in
+    found-sound (l .result) (now (s .table)) (s .g) (s .key) (l .ensures) (c .before .r .given .0 .0) (c .before .r .given .1)
 
 enum-told : tie.Need-enum-told
 enum-told c = search needs
@@ -34,22 +28,22 @@ enum-told-2 c = search needs
 
 returns : tie.Need-returns
 returns c =
+    let l = c .before .before .before .before .look-up in
     let s = c .before .before .before .before .before .before .args in
-    let r = c .before .before .r .given .0 .0 in
-    let l = looked (c .before) in
-    ap sumAnswer (c .record-sum .ensures) ∙ sum-for (meaning r) ∙ sym (at-section sumOf (now (s .table)) (s .g) (s .key) (some (meaning r)) (l .0) (l .1))
+    let r = c .before .before .r .given in
+    ap sumAnswer (c .record-sum .ensures) ∙ sum-for (meaning (r .0 .0)) ∙ when-found (l .result) (now (s .table)) (s .g) (s .key) (l .ensures) sumOf (r .0 .0) (r .1)
 
 returns-2 : tie.Need-returns-2
 returns-2 c =
+    let l = c .before .before .look-up in
     let s = c .before .before .before .before .args in
-    let l = subst (λ (a : Lookup). LookedUp a (now (s .table)) (s .g) (s .key)) (c .enum-told .given .1) (c .before .before .look-up .ensures) in
-    sym (at-section sumOf (now (s .table)) (s .g) (s .key) none (l .0) (l .1))
+    when-missing (l .result) (now (s .table)) (s .g) (s .key) (l .ensures) sumOf (c .enum-told .given .1)
 
 returns-3 : tie.Need-returns-3
 returns-3 c =
+    let l = c .before .before .look-up in
     let s = c .before .before .before .before .args in
-    let l = subst (λ (a : Lookup). LookedUp a (now (s .table)) (s .g) (s .key)) (c .enum-told2 .given .1) (c .before .before .look-up .ensures) in
-    sym (not-sound sumOf (now (s .table)) (s .g) (s .key) l)
+    when-unsound (l .result) (now (s .table)) (s .g) (s .key) (l .ensures) sumOf (c .enum-told2 .given .1)
 
 pub sum-spec : {M : Type 1} → statement M
 sum-spec =
