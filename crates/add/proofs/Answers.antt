@@ -13,10 +13,6 @@ use Rattle.table.specs.Calls.{anyOf, overfull, leaves, addSections, addGrounds,
 use Rattle.add.specs.Steps.{columnBits, Settles}
 use Rattle.add.proofs.Columns.{any-bits}
 
-pub flip : (b c : Bool) → not b ≡ c → b ≡ not c
-flip true c e = ap not e
-flip false c e = ap not e
-
 module _ (s : List ℕ) (g : ℕ) (ks vs : List ℕ) (work : ℕ) where
   abbrev pub Answered : Outcome ℕ → List ℕ → Type 0
   Answered r s′ = (r ≡ addOutcome s g ks vs work) × (s′ ≡ addLeaves s g ks vs work)

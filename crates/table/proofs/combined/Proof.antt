@@ -10,7 +10,7 @@ use Rattle.level.specs.Level.{below}
 use Rattle.record.specs.Section.{meaning}
 use Rattle.table.specs.Combine.{combine}
 use Rattle.table.specs.Steps.{bothAt}
-use Rattle.table.proofs.Totals.{sound-record-parts}
+use Rattle.record.proofs.Parts.{sound-record-parts}
 use Rattle.table.proofs.combined.Statement.{statement}
 use Rattle.table.proofs.combined.Tie as tie
 
