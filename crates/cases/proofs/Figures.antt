@@ -1,7 +1,6 @@
 -- One claim over the whole book, by computing.
-use Prim.Native.Nat.{ℕ}
 use mathlib.Core.Path.{_≡_, refl}
-use mathlib.Core.List.{List, map}
+use mathlib.Core.List.{map}
 use lib.Ieee.{add, ofBits, toBits, round}
 use Rattle.level.specs.Level.{topFrom, top, given, contribution}
 use Rattle.record.specs.Section.{find, kept}

@@ -6,7 +6,6 @@ use lib.IntN.{ℤ, pos, negsuc, negℤ}
 use lib.Ieee.{Float, binary64, add, ofBits, toBits}
 use Rattle.refusal.specs.Outcome.{Outcome, accepted, refused}
 use Rattle.level.specs.Carry.{carryOf, residueOf}
-use Rattle.patch.specs.Rows.{Row}
 use Rattle.record.specs.Section.{Section, find}
 use Rattle.table.specs.Combine.{added}
 use Rattle.finish.specs.Finish.{sumOf, figureOf}

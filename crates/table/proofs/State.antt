@@ -1,33 +1,28 @@
 -- A sound table in bytes: its sections fit, their keys rise, and its used bytes are those of its sections.
-use Prim.Native.Nat.{ℕ, zero, suc, _+_, _-_, _*_, _^_, _≤_, _<_}
+use Prim.Native.Nat.{ℕ, zero, suc, _*_, _^_, _≤_, _<_}
 use mathlib.Core.Path.{_≡_, refl, sym, ap, ap₂, _∙_, subst}
-use mathlib.Core.Bool.{Bool, true, false, _&&_, _||_}
 use mathlib.Core.List.{List, [], _∷_, _++_, map}
-use native.Mathlib.Nat.{lt-of-not-le}
-use native.Mathlib.Decide.{decLt}
 use native.Mathlib.Omega.{arith}
-use borrow.Author.Tests.{lt-leb, le-leb}
-use lib.Dec.{T, leb, ltb, eqb, leb→le, ltb→lt, eqb→eq, lit<}
+use lib.Dec.{T, ltb, ltb→lt}
 use lib.Ieee.Fits.{and-l, and-r}
-use lib.IntN.{ℤ, pos, negsuc, natAbs}
-use lib.ListN.{length, getD, take, drop, length-map}
-use Rattle.codec.specs.Bytes.{numberAt}
+use lib.IntN.{pos}
+use lib.ListN.{length, take, drop, length-map}
 use Rattle.codec.specs.Cells.{cells, image}
 use Rattle.codec.proofs.Laws.{AreBytes, drop-bytes, take-bytes, numberAt-lt}
 use Rattle.codec.proofs.Cells.{length-cells, image-cells}
 use Rattle.level.specs.declared.Held.{Held}
-use Rattle.level.specs.Carry.{heldOf, totalOf}
+use Rattle.level.specs.Carry.{totalOf}
 use Rattle.level.proofs.Carry.{held-total}
 use Rattle.record.specs.declared.Record.{Record}
 use Rattle.record.specs.Layout.{decode, encode, records, capacity}
 use Rattle.record.specs.Keys.{keys, rising}
-use Rattle.record.specs.Sound.{soundHeld, isZero, soundRecord, soundRecords, sound}
-use Rattle.record.specs.Section.{Section, meaning, recordOf, sections, sectionBytes, written}
+use Rattle.record.specs.Sound.{soundRecord, soundRecords, sound}
+use Rattle.record.specs.Section.{Section, meaning, recordOf, sections, sectionBytes}
 use Rattle.record.proofs.Laws.{encode-decode}
 use Rattle.record.proofs.Parts.{Empty, sound-record-parts, residue-bound, total-bound}
 use Rattle.record.proofs.Sound.{sound-parts, sound-made}
 use Rattle.table.proofs.Lists.{All}
-use Rattle.table.proofs.Lookup.{Above, Rising, keysIn}
+use Rattle.table.proofs.Lookup.{Rising, keysIn}
 use Rattle.table.proofs.Proper.{Proper}
 use Rattle.table.proofs.Bytes.{Fits, rising-records, sound-records}
 
@@ -76,9 +71,10 @@ records-small s g = cells-all Small 64 decode small g s
 fits-all : (rs : List Record) → All Small rs → T (soundRecords rs) → All Fits (map meaning rs)
 unfolding soundRecords
 fits-all [] a t = tt
-fits-all (r ∷ rs) a t =
-    (record { proper = section-proper r (a .0 .0) (and-l (soundRecord r) (soundRecords rs) t); few = omega (arith, a .0 .1) },
-    fits-all rs (a .1) (and-r (soundRecord r) (soundRecords rs) t))
+fits-all (r ∷ rs) a t = (
+  record { proper = section-proper r (a .0 .0) (and-l (soundRecord r) (soundRecords rs) t); few = omega (arith, a .0 .1) },
+  fits-all rs (a .1) (and-r (soundRecord r) (soundRecords rs) t),
+)
 
 rising-keys : (rs : List Record) → T (rising (keys rs)) → Rising (keysIn (map meaning rs))
 unfolding rising

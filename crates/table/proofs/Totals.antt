@@ -1,18 +1,13 @@
 -- What a sound record holds at a level, and the range of its residue and carry.
-use Prim.Native.Nat.{ℕ, suc, _+_, _-_, _*_, _^_, _≤_, _<_}
-use mathlib.Core.Path.{_≡_, refl, ap}
-use mathlib.Core.Bool.{Bool, true, false, cond, _&&_, _||_}
-use native.Mathlib.Omega.{arith}
-use borrow.Author.Tests.{le-leb}
-use lib.Dec.{T, ltb, leb, eqb, ltb→lt, leb→le, eqb→eq, lit<}
-use lib.Ieee.Fits.{and-l, and-r}
-use lib.IntN.{ℤ, pos, negsuc, negℤ, natAbs, _+ℤ_, _*ℤ_, +ℤ-negℤ-cancel}
+use Prim.Native.Nat.{ℕ, _+_, _^_, _<_}
+use mathlib.Core.Path.{_≡_, refl}
+use mathlib.Core.Bool.{Bool, true, false, cond}
+use lib.Dec.{T, eqb, lit<}
+use lib.IntN.{pos, natAbs}
 use Rattle.level.specs.declared.Held.{Held}
-use Rattle.level.specs.Level.{below}
 use Rattle.level.specs.Carry.{heldOf, totalOf}
-use Rattle.integers.proofs.Laws.{natAbs-+ℤ, natAbs-neg}
 use Rattle.record.specs.declared.Record.{Record}
-use Rattle.record.specs.Sound.{soundHeld, soundRecord, isZero}
+use Rattle.record.specs.Sound.{soundHeld, soundRecord}
 use Rattle.record.specs.Section.{meaning}
 use Rattle.record.proofs.Parts.{sound-record-parts, residue-bound, carry-bound}
 use Rattle.table.specs.Combine.{levelOf}
