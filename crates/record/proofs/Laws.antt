@@ -8,16 +8,15 @@ use native.Mathlib.Nat.{add-zero, add-assoc}
 use native.Mathlib.Numerals.{add-one}
 use borrow.Author.Tests.{le-leb}
 use lib.Dec.{leb}
-use lib.ListN.{length, getD, set, take, drop, length-append, length-drop, length-map, take-append-drop}
+use lib.ListN.{length, getD, set, take, drop, length-append, length-drop, length-map}
 use lib.Seq.{sets, sets-eq, length-take-le, take-add, drop-drop}
 use lib.IntN.{ℤ}
 use mir.Syntax.{w64}
 use mir.Val.{toZ, ofZ, SFits}
 use mir.ValLaws.{toZ-ofZ, ofZ-toZ, ofZ-fits}
 use Rattle.codec.specs.Bytes.{bytes, numberAt}
-use Rattle.codec.proofs.Laws.{length-bytes, sets-then, numberAt-take, numberAt-drop, numberAt-left, numberAt-right, numberAt-bytes, drop-sets, sets-swap, AreBytes, drop-bytes, numberAt-lt, bytes-numberAt}
-use Rattle.codec.proofs.Cells.{getD-cells, cells-sets, cells-append, cells-take, map-cells, length-cells, cells-insert, image-cells}
-use Rattle.codec.specs.Cells.{image}
+use Rattle.codec.proofs.Laws.{length-bytes, sets-then, numberAt-take, numberAt-drop, numberAt-left, numberAt-right, numberAt-bytes, sets-swap, AreBytes, drop-bytes, numberAt-lt, bytes-numberAt}
+use Rattle.codec.proofs.Cells.{getD-cells, cells-sets, map-cells, length-cells, cells-insert}
 use Rattle.level.specs.declared.Held.{Held}
 use Rattle.record.specs.declared.Record.{Record}
 use Rattle.record.specs.Layout.{heldAt, recordAt, encodeHeld, encode, decode, records}
@@ -99,16 +98,6 @@ module _ (s : List ℕ) (g : ℕ) (fits : g * 64 ≤ length s) where
   pub records-put : (i : ℕ) (r : Record) → i < g → decode (encode r) ≡ r → records (sets s (i * 64) (encode r)) g ≡ set (records s g) i r
   records-put i r h e = cells-sets 64 decode i g s (encode r) h (length-encode r) fits ∙ ap (set (records s g) i) e
 
-  -- bytes past the used ones do not count, and are not touched
-  pub records-append : (b : List ℕ) → records (s ++ b) g ≡ records s g
-  records-append b = cells-append 64 decode g s b fits
-
-  pub records-take : records (take (g * 64) s) g ≡ records s g
-  records-take = cells-take 64 decode g s fits
-
-  pub rest-put : (i : ℕ) (r : Record) → i < g → drop (g * 64) (sets s (i * 64) (encode r)) ≡ drop (g * 64) s
-  rest-put i r h = drop-sets s (encode r) (i * 64) (g * 64) (omega (arith, length-encode r))
-
   pub getD-keys : (i : ℕ) → i < g → getD (keys (records s g)) i 0 ≡ numberAt 4 s (i * 64)
   getD-keys i h =
       ap (λ (l : List ℕ). getD l i 0) (map-cells 64 decode (λ (r : Record). r .key) g s)
@@ -140,11 +129,6 @@ encode-decode b l h =
     ∙ join b h 48 16 (join b h 32 16 (join b h 16 16 (join b h 12 4 (join b h 8 4 (join b h 4 4
     (f 0 (omega arith)) (f 4 (omega arith))) (f 8 (omega arith))) (f 12 (omega arith)))
     (total-bytes b h 16 (omega arith))) (total-bytes b h 32 (omega arith))) (total-bytes b h 48 (omega arith))
-
--- a table is the image of its records and the bytes after them
-pub table-is : (s : List ℕ) (g : ℕ) → g * 64 ≤ length s → AreBytes s → s ≡ image encode (records s g) ++ drop (g * 64) s
-table-is s g l h =
-    sym (take-append-drop (g * 64) s) ∙ ap (λ (x : List ℕ). x ++ drop (g * 64) s) (sym (image-cells 64 encode decode encode-decode g s l h))
 
 -- ---- the later records moved, and then a new one put
 
