@@ -1,0 +1,70 @@
+-- What the outcome of an inner call says of its answer: a number comes back as it is, an accepted group count is small, a line's sum is finite.
+use Prim.Native.Nat.{ℕ, _/_, _≤_}
+use native.Mathlib.Nat.{min-le-right}
+use mathlib.Core.Path.{_≡_, refl, sym, ap, subst, _∙_}
+use mathlib.Core.Bool.{Bool, true, false, cond}
+use mathlib.Core.List.{List}
+use mathlib.Core.Option.{Option, none, some}
+use native.Mathlib.Omega.{arith}
+use lib.Dec.{T}
+use lib.IntN.{ℤ, pos, negℤ}
+use lib.ListN.{length}
+use lib.Ieee.Scale.{finite}
+use mir.Syntax.{w32, w64}
+use mir.Val.{SFits, toZ, ofZ}
+use mir.Facts.{sfits-widen}
+use mir.ValLaws.{toZ-ofZ}
+use borrow.Author.Tests.{ltb-false}
+use Rattle.refusal.specs.Outcome.{Outcome, accepted, refused}
+use Rattle.patch.proofs.Grounds.{none-holds}
+use Rattle.record.specs.Layout.{capacity}
+use Rattle.record.specs.Sound.{sound}
+use Rattle.record.specs.Section.{Section, kept, sections, find}
+use Rattle.table.specs.Calls.{addSections, addGrounds, addOutcome}
+use Rattle.finish.specs.Sum.{nearestDouble, tooLarge}
+use Rattle.finish.specs.Figure.{beyond}
+use Rattle.finish.specs.Finish.{figureFor, lineFor, lineOf, lineOutcome}
+use Rattle.finish.specs.declared.FinishedLine.{FinishedLine}
+use Rattle.finish.proofs.Sums.{nearest-finite}
+use Rattle.finish.proofs.Outcomes.{never}
+use Rattle.exports.specs.Calls.{returned}
+
+-- a refusal's number, read back
+pub refusing : {A : Type 0} (f : A → ℕ) {o : Outcome A} (n : ℕ) (z : ℤ) → SFits w64 z → z ≡ negℤ (pos n) → refused n ≡ o → toZ w64 (ofZ w64 z) ≡ returned f o
+refusing f n z fits q e = toZ-ofZ w64 z fits ∙ q ∙ ap (returned f) e
+
+-- a figure of 32 bits, widened
+pub widens : (z : ℤ) → SFits w32 z → SFits w64 (toZ w32 (ofZ w32 z))
+widens z fits = subst (SFits w64) (sym (toZ-ofZ w32 z fits)) (sfits-widen tt fits)
+
+pub widened : (z : ℤ) → SFits w32 z → toZ w64 (ofZ w64 (toZ w32 (ofZ w32 z))) ≡ z
+widened z fits = ap (λ (y : ℤ). toZ w64 (ofZ w64 y)) (toZ-ofZ w32 z fits) ∙ toZ-ofZ w64 z (sfits-widen tt fits)
+
+pub capacity-le : (n : ℕ) → capacity n ≤ 1024
+capacity-le n = min-le-right (n / 64) 1024
+
+-- an accepted add gives no more groups than a table can have
+pub add-groups : (s : List ℕ) (g : ℕ) (ks vs : List ℕ) (work n : ℕ) → addOutcome s g ks vs work ≡ accepted n → n ≤ 1024
+unfolding addGrounds
+add-groups s g ks vs work n e =
+    let p = none-holds (addGrounds s g ks vs work) e in
+    let room = ltb-false (capacity (length s)) (length (addSections s g ks vs)) (p .0 .1 .1 .1 .1 .1 .0) in
+    let q = p .1 in
+    omega (arith, capacity-le (length s))
+
+-- the sum of a finished line is finite
+line-finite : (o : Option Section) (l : FinishedLine) → accepted l ≡ lineOf o → T (finite (l .sum))
+line-finite none l e = never (cc)
+line-finite (some s) l e = by (tooLarge (kept s)) (beyond (figureFor s)) (nearest-finite (kept s)) e
+  where
+    by : (a b : Bool) → (a ≡ false → T (finite (nearestDouble (kept s)))) → accepted l ≡ cond a (refused 14) (cond b (refused 15) (accepted (lineFor s))) → T (finite (l .sum))
+    by true b h e = never (cc)
+    by false true h e = never (cc)
+    by false false h e = let q : l ≡ lineFor s = cc in rw q (h refl)
+
+pub line-sum-finite : (l : FinishedLine) (s : List ℕ) (g k : ℕ) → accepted l ≡ lineOutcome s g k → T (finite (l .sum))
+line-sum-finite l s g k e = by (sound s g) e
+  where
+    by : (b : Bool) → accepted l ≡ cond b (lineOf (find k (sections s g))) (refused 7) → T (finite (l .sum))
+    by true e = line-finite (find k (sections s g)) l e
+    by false e = never (cc)

@@ -1,0 +1,54 @@
+use mathlib.Core.Path.{sym, ap, _∙_}
+use lib.IntN.{pos}
+use mir.Syntax.{w32, w64}
+use mir.Val.{SFits}
+use Rattle.refusal.specs.Number.{numberOf}
+use Rattle.finish.specs.Answer.{lineAnswer}
+use Rattle.finish.specs.declared.FinishedLine.{FinishedLine}
+use Rattle.finish.proofs.Fraction.{number}
+use Rattle.exports.specs.Calls.{returned, none, writes, bitsOf}
+use Rattle.exports.proofs.Answers.{refusing, widens, widened, line-sum-finite}
+use borrow.Author.Needs.{needs}
+use Rattle.exports.proofs.girth_line.Statement.{statement}
+use Rattle.exports.proofs.girth_line.Tie as tie
+
+line-requires : tie.Need-line-requires
+line-requires c κs = search needs
+
+enum-known-l : tie.Need-enum-known-l
+enum-known-l c = search needs
+
+cast-count : tie.Need-cast-count
+cast-count c = search needs
+
+float-to-bits-bits : tie.Need-float-to-bits-bits
+float-to-bits-bits c = let s = c .before .before .before .before .before .before .before .args in let l = c .before .before .before .l .given in let r = c .before .before .before .before .before .line in number (l .0 .0 .sum) (line-sum-finite (l .0 .0) (s .table .now) (s .g) (s .key) (ap lineAnswer (sym (l .1)) ∙ r .ensures))
+
+cast-figure : tie.Need-cast-figure
+cast-figure c = let z = c .before .before .before .before .before .l .given .0 .0 .figure in let f : SFits w32 z = search needs in widens z f
+
+enum-known-r : tie.Need-enum-known-r
+enum-known-r c = search needs
+
+minus-requires : tie.Need-minus-requires
+minus-requires c κs = search needs
+
+returns : tie.Need-returns
+returns c = let l = c .before .before .before .before .before .l .given in let o = ap lineAnswer (sym (l .1)) ∙ c .before .before .before .before .before .before .before .line .ensures in let f : SFits w32 (l .0 .0 .figure) = search needs in (ap (returned none) o, (ap (writes 0 (λ (l : FinishedLine). l .count)) o, (ap (writes 0 (λ (l : FinishedLine). bitsOf (l .sum))) o, widened (l .0 .0 .figure) f ∙ ap (writes (pos 0) (λ (l : FinishedLine). l .figure)) o)))
+
+returns-2 : tie.Need-returns-2
+returns-2 c = let r = c .before .before .r .given in let o = ap lineAnswer (sym (r .1)) ∙ c .before .before .before .before .line .ensures in let f : SFits w64 (c .minus .result) = search needs in (refusing none (numberOf (r .0 .0)) (c .minus .result) f (c .minus .ensures) o, (ap (writes 0 (λ (l : FinishedLine). l .count)) o, (ap (writes 0 (λ (l : FinishedLine). bitsOf (l .sum))) o, ap (writes (pos 0) (λ (l : FinishedLine). l .figure)) o)))
+
+pub girth-line-spec : {M : Type 1} → statement M
+girth-line-spec =
+    tie.close
+    (tie.spec
+    line-requires
+    enum-known-l
+    cast-count
+    float-to-bits-bits
+    cast-figure
+    enum-known-r
+    minus-requires
+    returns
+    returns-2)

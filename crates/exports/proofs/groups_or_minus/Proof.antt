@@ -1,0 +1,35 @@
+use mathlib.Core.Path.{sym, ap, _∙_}
+use native.Mathlib.Omega.{arith}
+use mir.Syntax.{w64}
+use mir.Val.{SFits}
+use mir.ValLaws.{toZ-pos}
+use Rattle.refusal.specs.Number.{numberOf}
+use Rattle.table.specs.Answer.{tableAnswer}
+use Rattle.table.specs.declared.TableAnswer.{TableAnswer}
+use Rattle.exports.specs.Calls.{returned, count}
+use Rattle.exports.proofs.Answers.{refusing}
+use borrow.Author.Needs.{needs}
+use Rattle.exports.proofs.groups_or_minus.Statement.{statement}
+use Rattle.exports.proofs.groups_or_minus.Tie as tie
+
+enum-known-a : tie.Need-enum-known-a
+enum-known-a c = search needs
+
+cast-result : tie.Need-cast-result
+cast-result c = let g = c .before .a .given in let small = c .before .before .before .pre (g .0 .0) (ap tableAnswer (g .1)) in search needs
+
+enum-known-a-2 : tie.Need-enum-known-a-2
+enum-known-a-2 c = search needs
+
+minus-requires : tie.Need-minus-requires
+minus-requires c κs = search needs
+
+returns : tie.Need-returns
+returns c = let g = c .before .a .given in let small = c .before .before .before .pre (g .0 .0) (ap tableAnswer (g .1)) in toZ-pos w64 (g .0 .0) (omega arith) ∙ ap (λ (a : TableAnswer). returned count (tableAnswer a)) (sym (g .1))
+
+returns-2 : tie.Need-returns-2
+returns-2 c = let g = c .before .before .a2 .given in let f : SFits w64 (c .minus .result) = search needs in refusing count (numberOf (g .0 .0)) (c .minus .result) f (c .minus .ensures) (ap tableAnswer (sym (g .1)))
+
+pub groups-or-minus-spec : {M : Type 1} → statement M
+groups-or-minus-spec =
+    tie.close (tie.spec enum-known-a cast-result enum-known-a-2 minus-requires returns returns-2)

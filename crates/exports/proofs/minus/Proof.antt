@@ -1,0 +1,24 @@
+use Prim.Native.Nat.{ℕ}
+use mathlib.Core.Path.{ap, _∙_}
+use lib.IntN.{pos, negℤ}
+use mir.Syntax.{w64}
+use mir.Val.{SFits}
+use mir.ValLaws.{toZ-ofZ}
+use borrow.Author.Needs.{needs}
+use Rattle.exports.proofs.minus.Statement.{statement}
+use Rattle.exports.proofs.minus.Tie as tie
+
+number-requires : tie.Need-number-requires
+number-requires c κs = search needs
+
+cast-with-sign : tie.Need-cast-with-sign
+cast-with-sign c = search needs
+
+with-sign-requires : tie.Need-with-sign-requires
+with-sign-requires c κs = search needs
+
+returns : tie.Need-returns
+returns c = let w = c .with-sign in let f : SFits w64 (w .result) = search needs in toZ-ofZ w64 (w .result) f ∙ w .ensures ∙ ap (λ (k : ℕ). negℤ (pos k)) (c .before .number .ensures)
+
+pub minus-spec : {M : Type 1} → statement M
+minus-spec = tie.close (tie.spec number-requires cast-with-sign with-sign-requires returns)

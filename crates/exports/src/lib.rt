@@ -1,0 +1,150 @@
+// The public calls under their plain names, for Rust and C. A call returns a number of at least 0, or minus the refusal's number; its other results go
+// out through references, and are 0 when the call is refused.
+ghost use mathlib.Core.Path.{_≡_};
+ghost use mathlib.Core.Bool.{not};
+ghost use Prim.Native.Nat.{ℕ, _≤_, _<_, _^_};
+ghost use lib.Dec.{T};
+ghost use lib.IntN.{pos, negℤ};
+ghost use lib.ListN.{length};
+ghost use lib.Ieee.{binary64};
+ghost use lib.Ieee.Scale.{finite};
+ghost use Rattle.refusal.specs.Number.{numberOf};
+ghost use Rattle.refusal.specs.Outcome.{accepted};
+ghost use Rattle.patch.specs.File.{fieldAt, keyDistance, valueDistance, readOutcome};
+ghost use Rattle.table.specs.Calls.{addOutcome, addLeaves, cleared};
+ghost use Rattle.table.specs.Answer.{tableAnswer};
+ghost use Rattle.finish.specs.Finish.{sumOutcome, figureOutcome, lineOutcome};
+ghost use Rattle.exports.specs.Calls.{returned, count, none, writes, startOf, bitsOf, columnAt};
+use finish::FigureAnswer;
+use finish::LineAnswer;
+use finish::SectionSum;
+use patch::Reading;
+use refusal::Refusal;
+use table::TableAnswer;
+
+// Minus a refusal's number.
+fn minus(r: Refusal) -> i64
+    ensures { λ n. ⌜ n ≡ negℤ (pos (numberOf r)) ⌝ }
+{
+    level::with_sign(true, refusal::number(r) as u64)
+}
+
+// Where the column starts whose distance stands in the trailer's field at back.
+fn column_start(file: &[u8], back: usize) -> u64
+    requires { ⌜ (4 ≤ back) × (back ≤ length (now file)) × (fieldAt (now file) back ≤ length (now file)) ⌝ }
+    ensures { λ r. ⌜ r ≡ startOf (now (file .entry)) (fieldAt (now (file .entry)) back) ⌝ }
+{
+    let distance = codec::u32_at(file, file.len() - back) as usize;
+    (file.len() - distance) as u64
+}
+
+// The row count of a patch file, and where its columns start.
+#[no_mangle]
+pub extern "C" fn girth_read(file: &[u8], keys_at: &mut u64, values_at: &mut u64) -> i64
+    ensures answer { λ r. ⌜ r ≡ returned count (readOutcome 8 (now (file .entry))) ⌝ }
+    ensures keys { λ _. ⌜ now («keys_at» .exit) ≡ columnAt keyDistance (now (file .entry)) ⌝ }
+    ensures values { λ _. ⌜ now («values_at» .exit) ≡ columnAt valueDistance (now (file .entry)) ⌝ }
+{
+    match patch::read(file) {
+        Reading::Rows(n) => {
+            *keys_at = column_start(file, 12);
+            *values_at = column_start(file, 8);
+            n as i64
+        }
+        Reading::Refused(r) => {
+            *keys_at = 0;
+            *values_at = 0;
+            minus(r)
+        }
+    }
+}
+
+// The new group count of an add or a merge, or minus the refusal's number.
+fn groups_or_minus(a: TableAnswer) -> i64
+    requires { ⌜ ((g : ℕ) → tableAnswer a ≡ accepted g → g ≤ 1024) ⌝ }
+    ensures { λ r. ⌜ r ≡ returned count (tableAnswer a) ⌝ }
+{
+    match a {
+        TableAnswer::Groups(g) => g as i64,
+        TableAnswer::Refused(r) => minus(r),
+    }
+}
+
+// Adds the rows of two columns to a table of g records. The work buffer holds only zeros afterwards.
+#[no_mangle]
+pub extern "C" fn girth_add(
+    table: &mut [u8],
+    g: u64,
+    keys: &[u8],
+    values: &[u8],
+    work: &mut [u8],
+) -> i64
+    ensures answer { λ r. ⌜ r ≡ returned count (addOutcome (now (table .entry)) g (now (keys .entry)) (now (values .entry)) (length (now (work .entry)))) ⌝ }
+    ensures bytes { λ _. ⌜ now (table .exit) ≡ addLeaves (now (table .entry)) g (now (keys .entry)) (now (values .entry)) (length (now (work .entry))) ⌝ }
+    ensures work { λ _. ⌜ now (work .exit) ≡ cleared (now (work .entry)) ⌝ }
+{
+    groups_or_minus(add::add(table, g as usize, keys, values, work))
+}
+
+// The sum of a section, as 64 bits.
+#[no_mangle]
+pub extern "C" fn girth_sum(table: &[u8], g: u64, key: u32, bits: &mut u64) -> i64
+    ensures answer { λ r. ⌜ r ≡ returned none (sumOutcome (now (table .entry)) g key) ⌝ }
+    ensures bits { λ _. ⌜ now (bits .exit) ≡ writes 0 bitsOf (sumOutcome (now (table .entry)) g key) ⌝ }
+{
+    *bits = 0;
+    match finish::sum(table, g as usize, key) {
+        SectionSum::Finite(x) => {
+            *bits = f64::to_bits(x);
+            0
+        }
+        SectionSum::Absent => minus(Refusal::SectionAbsent),
+        SectionSum::TooLarge => minus(Refusal::SumTooLarge),
+        SectionSum::NotSound => minus(Refusal::TableNotSound),
+    }
+}
+
+// The mill figure of a section.
+#[no_mangle]
+pub extern "C" fn girth_figure(table: &[u8], g: u64, key: u32, figure: &mut i64) -> i64
+    ensures answer { λ r. ⌜ r ≡ returned none (figureOutcome (now (table .entry)) g key) ⌝ }
+    ensures figure { λ _. ⌜ now (figure .exit) ≡ writes (pos 0) (λ z. z) (figureOutcome (now (table .entry)) g key) ⌝ }
+{
+    *figure = 0;
+    match finish::figure(table, g as usize, key) {
+        FigureAnswer::Figure(z) => {
+            *figure = z as i64;
+            0
+        }
+        FigureAnswer::Refused(r) => minus(r),
+    }
+}
+
+// The finished line of a section: row count, sum as 64 bits, mill figure.
+#[no_mangle]
+pub extern "C" fn girth_line(
+    table: &[u8],
+    g: u64,
+    key: u32,
+    count: &mut u64,
+    bits: &mut u64,
+    figure: &mut i64,
+) -> i64
+    ensures answer { λ r. ⌜ r ≡ returned none (lineOutcome (now (table .entry)) g key) ⌝ }
+    ensures count { λ _. ⌜ now (count .exit) ≡ writes 0 (λ l. l .count) (lineOutcome (now (table .entry)) g key) ⌝ }
+    ensures bits { λ _. ⌜ now (bits .exit) ≡ writes 0 (λ l. bitsOf (l .sum)) (lineOutcome (now (table .entry)) g key) ⌝ }
+    ensures figure { λ _. ⌜ now (figure .exit) ≡ writes (pos 0) (λ l. l .figure) (lineOutcome (now (table .entry)) g key) ⌝ }
+{
+    *count = 0;
+    *bits = 0;
+    *figure = 0;
+    match finish::line(table, g as usize, key) {
+        LineAnswer::Line(l) => {
+            *count = l.count as u64;
+            *bits = f64::to_bits(l.sum);
+            *figure = l.figure as i64;
+            0
+        }
+        LineAnswer::Refused(r) => minus(r),
+    }
+}
