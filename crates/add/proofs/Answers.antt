@@ -1,21 +1,17 @@
 -- The answer of an add, by the tests in their order.
 use Prim.Native.Nat.{ℕ, _≤_, _<_}
-use mathlib.Core.Path.{_≡_, refl, sym, ap, _∙_}
-use mathlib.Core.Bool.{Bool, true, false, not}
+use mathlib.Core.Path.{_≡_, sym, ap, _∙_}
+use mathlib.Core.Bool.{true, false, not}
 use mathlib.Core.List.{List}
 use borrow.Author.Tests.{lt-ltb, le-ltb}
 use lib.ListN.{length}
-use Rattle.refusal.specs.Outcome.{Outcome, accepted, refused}
+use Rattle.refusal.specs.Outcome.{Outcome, refused}
 use Rattle.level.specs.Double.{finite}
-use Rattle.patch.specs.Rows.{Row, rowsOf, columnsFit}
+use Rattle.patch.specs.Rows.{columnsFit}
 use Rattle.record.specs.Sound.{sound}
 use Rattle.table.specs.Calls.{anyOf, overfull, leaves, addSections, addGrounds, addOutcome, addLeaves}
 use Rattle.add.specs.Steps.{columnBits, Settles}
 use Rattle.add.proofs.Columns.{any-bits}
-
-pub flip : (b c : Bool) → not b ≡ c → b ≡ not c
-flip true c e = ap not e
-flip false c e = ap not e
 
 module _ (s : List ℕ) (g : ℕ) (ks vs : List ℕ) (work : ℕ) where
   abbrev pub Answered : Outcome ℕ → List ℕ → Type 0

@@ -1,23 +1,21 @@
 -- Row counts after an add: those held and those brought. So whether a section is overfull can be seen before any row is added.
-use Prim.Native.Nat.{ℕ, zero, suc, _+_, _≤_, _<_}
+use Prim.Native.Nat.{ℕ, _+_, _≤_, _<_}
 use mathlib.Core.Path.{_≡_, refl, sym, ap, ap₂, _∙_}
 use mathlib.Core.Bool.{Bool, true, false, cond, _||_, or-true, true≢false}
 use mathlib.Core.List.{List, [], _∷_, map}
 use mathlib.Core.Option.{Option, none, some}
 use native.Mathlib.Omega.{arith}
 use native.Mathlib.Decide.{ℕ-discrete}
-use borrow.Author.Tests.{lt-ltb, ltb-true, eq-eqb, ne-eqb, eqb-true}
+use borrow.Author.Tests.{lt-ltb, ltb-true, eq-eqb, ne-eqb}
 use lib.Dec.{ltb, eqb}
-use lib.ListN.{length}
 use Rattle.codec.specs.Bytes.{number}
-use Rattle.codec.specs.Cells.{cells}
 use Rattle.codec.proofs.Cells.{length-cells}
 use Rattle.patch.specs.Rows.{Row, columnRows, rowsOf}
-use Rattle.record.specs.Section.{Section, sectionAt, find}
+use Rattle.record.specs.Section.{Section, find}
 use Rattle.table.specs.Combine.{ofRow, combine, absorb, added}
 use Rattle.table.specs.Calls.{anyOf, overfull}
 use Rattle.table.proofs.Lists.{All}
-use Rattle.table.proofs.Lookup.{Above, Rising, keysIn, rising-tail, find-nil, find-head, find-tail, find-above, absorb-cases, absorb-rising, find-absorb, join, only, only-is, only-not, join-none}
+use Rattle.table.proofs.Lookup.{Rising, keysIn, rising-tail, find-nil, find-head, find-tail, find-above, absorb-cases, absorb-rising, find-absorb, join, only, only-is, only-not, join-none}
 use Rattle.add.specs.Steps.{columnKeys, occurrences, countOf, countIn, passes}
 use Rattle.add.proofs.Any.{occurrences-le}
 use Rattle.add.proofs.Columns.{row-keys}

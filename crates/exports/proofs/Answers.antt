@@ -20,7 +20,7 @@ use Rattle.patch.proofs.Grounds.{none-holds}
 use Rattle.record.specs.Layout.{capacity}
 use Rattle.record.specs.Sound.{sound}
 use Rattle.record.specs.Section.{Section, kept, sections, find}
-use Rattle.table.specs.Calls.{addSections, addGrounds, addOutcome}
+use Rattle.table.specs.Calls.{addSections, addGrounds, addOutcome, mergeSections, mergeGrounds, mergeOutcome}
 use Rattle.finish.specs.Sum.{nearestDouble, tooLarge}
 use Rattle.finish.specs.Figure.{beyond}
 use Rattle.finish.specs.Finish.{figureFor, lineFor, lineOf, lineOutcome}
@@ -49,6 +49,14 @@ unfolding addGrounds
 add-groups s g ks vs work n e =
     let p = none-holds (addGrounds s g ks vs work) e in
     let room = ltb-false (capacity (length s)) (length (addSections s g ks vs)) (p .0 .1 .1 .1 .1 .1 .0) in
+    let q = p .1 in
+    omega (arith, capacity-le (length s))
+
+pub merge-groups : (s : List ℕ) (g : ℕ) (s′ : List ℕ) (g′ n : ℕ) → mergeOutcome s g s′ g′ ≡ accepted n → n ≤ 1024
+unfolding mergeGrounds
+merge-groups s g s′ g′ n e =
+    let p = none-holds (mergeGrounds s g s′ g′) e in
+    let room = ltb-false (capacity (length s)) (length (mergeSections s g s′ g′)) (p .0 .1 .1 .0) in
     let q = p .1 in
     omega (arith, capacity-le (length s))
 

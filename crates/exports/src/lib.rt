@@ -11,7 +11,7 @@ ghost use lib.Ieee.Scale.{finite};
 ghost use Rattle.refusal.specs.Number.{numberOf};
 ghost use Rattle.refusal.specs.Outcome.{accepted};
 ghost use Rattle.patch.specs.File.{fieldAt, keyDistance, valueDistance, readOutcome};
-ghost use Rattle.table.specs.Calls.{addOutcome, addLeaves, cleared};
+ghost use Rattle.table.specs.Calls.{addOutcome, addLeaves, cleared, mergeOutcome, mergeLeaves};
 ghost use Rattle.table.specs.Answer.{tableAnswer};
 ghost use Rattle.finish.specs.Finish.{sumOutcome, figureOutcome, lineOutcome};
 ghost use Rattle.exports.specs.Calls.{returned, count, none, writes, startOf, bitsOf, columnAt};
@@ -84,6 +84,15 @@ pub extern "C" fn girth_add(
     ensures work { λ _. ⌜ now (work .exit) ≡ cleared (now (work .entry)) ⌝ }
 {
     groups_or_minus(add::add(table, g as usize, keys, values, work))
+}
+
+// Merges a table of g2 records into one of g1.
+#[no_mangle]
+pub extern "C" fn girth_merge(first: &mut [u8], g1: u64, second: &[u8], g2: u64) -> i64
+    ensures answer { λ r. ⌜ r ≡ returned count (mergeOutcome (now (first .entry)) g1 (now (second .entry)) g2) ⌝ }
+    ensures bytes { λ _. ⌜ now (first .exit) ≡ mergeLeaves (now (first .entry)) g1 (now (second .entry)) g2 ⌝ }
+{
+    groups_or_minus(merge::merge(first, g1 as usize, second, g2 as usize))
 }
 
 // The sum of a section, as 64 bits.

@@ -7,3 +7,4 @@ pub mod Finishing
 pub mod Fit
 pub mod Calls
 pub mod Demand
+pub mod Contracts

@@ -3,3 +3,4 @@ pub mod Laws
 pub mod Order
 pub mod Sound
 pub mod Found
+pub mod Parts

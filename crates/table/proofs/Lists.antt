@@ -13,11 +13,15 @@ module _ {A : Type 0} (P : A → Type 0) where
   all-append [] ys a b = b
   all-append (x ∷ xs) ys a b = (a .0, all-append xs ys (a .1) b)
 
+  pub all-map : (Q : A → Type 0) → ((x : A) → P x → Q x) → (xs : List A) → All P xs → All Q xs
+  all-map Q f [] a = tt
+  all-map Q f (x ∷ xs) a = (f x (a .0), all-map Q f xs (a .1))
+
   pub all-zip : (Q R : A → Type 0) → ((x : A) → P x → Q x → R x) → (xs : List A) → All P xs → All Q xs → All R xs
   all-zip Q R f [] a b = tt
   all-zip Q R f (x ∷ xs) a b = (f x (a .0) (b .0), all-zip Q R f xs (a .1) (b .1))
 
-or-false : (a b : Bool) → (a || b) ≡ false → (a ≡ false) × (b ≡ false)
+pub or-false : (a b : Bool) → (a || b) ≡ false → (a ≡ false) × (b ≡ false)
 or-false true b e = absurd (true≢false e)
 or-false false b e = (refl, e)
 

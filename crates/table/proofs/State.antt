@@ -1,55 +1,34 @@
 -- A sound table in bytes: its sections fit, their keys rise, and its used bytes are those of its sections.
-use Prim.Native.Nat.{ℕ, zero, suc, _+_, _-_, _*_, _^_, _≤_, _<_}
+use Prim.Native.Nat.{ℕ, zero, suc, _*_, _^_, _≤_, _<_}
 use mathlib.Core.Path.{_≡_, refl, sym, ap, ap₂, _∙_, subst}
-use mathlib.Core.Bool.{Bool, true, false, _&&_, _||_}
 use mathlib.Core.List.{List, [], _∷_, _++_, map}
-use native.Mathlib.Nat.{lt-of-not-le}
-use native.Mathlib.Decide.{decLt}
 use native.Mathlib.Omega.{arith}
-use borrow.Author.Tests.{lt-leb, le-leb}
-use lib.Dec.{T, leb, ltb, eqb, leb→le, ltb→lt, eqb→eq, lit<}
+use lib.Dec.{T, ltb, ltb→lt}
 use lib.Ieee.Fits.{and-l, and-r}
-use lib.IntN.{ℤ, pos, negsuc, natAbs}
-use lib.ListN.{length, getD, take, drop, length-map}
-use Rattle.integers.proofs.Laws.{size-zero}
-use Rattle.codec.specs.Bytes.{numberAt}
+use lib.IntN.{pos}
+use lib.ListN.{length, take, drop, length-map}
 use Rattle.codec.specs.Cells.{cells, image}
 use Rattle.codec.proofs.Laws.{AreBytes, drop-bytes, take-bytes, numberAt-lt}
 use Rattle.codec.proofs.Cells.{length-cells, image-cells}
 use Rattle.level.specs.declared.Held.{Held}
-use Rattle.level.specs.Carry.{heldOf, totalOf}
+use Rattle.level.specs.Carry.{totalOf}
 use Rattle.level.proofs.Carry.{held-total}
 use Rattle.record.specs.declared.Record.{Record}
 use Rattle.record.specs.Layout.{decode, encode, records, capacity}
 use Rattle.record.specs.Keys.{keys, rising}
-use Rattle.record.specs.Sound.{soundHeld, isZero, soundRecord, soundRecords, sound}
-use Rattle.record.specs.Section.{Section, meaning, recordOf, sections, sectionBytes, written}
+use Rattle.record.specs.Sound.{soundRecord, soundRecords, sound}
+use Rattle.record.specs.Section.{Section, meaning, recordOf, sections, sectionBytes}
 use Rattle.record.proofs.Laws.{encode-decode}
+use Rattle.record.proofs.Parts.{Empty, sound-record-parts, residue-bound, total-bound}
 use Rattle.record.proofs.Sound.{sound-parts, sound-made}
 use Rattle.table.proofs.Lists.{All}
-use Rattle.table.proofs.Lookup.{Above, Rising, keysIn}
+use Rattle.table.proofs.Lookup.{Rising, keysIn}
 use Rattle.table.proofs.Proper.{Proper}
-use Rattle.table.proofs.Totals.{SoundParts, sound-record-parts}
 use Rattle.table.proofs.Bytes.{Fits, rising-records, sound-records}
 
 -- ---- one record
-total-bound : (n : ℕ) (h : Held) → T (soundHeld n h) → natAbs (totalOf h) ≤ n * 2 ^ 39
-unfolding soundHeld
-total-bound n h t = leb→le (natAbs (totalOf h)) (n * 2 ^ 39) (and-r (ltb (h .residue) (2 ^ 50)) (leb (natAbs (totalOf h)) (n * 2 ^ 39)) t)
-
-residue-bound : (n : ℕ) (h : Held) → T (soundHeld n h) → h .residue < 2 ^ 50
-unfolding soundHeld
-residue-bound n h t = ltb→lt (h .residue) (2 ^ 50) (and-l (ltb (h .residue) (2 ^ 50)) (leb (natAbs (totalOf h)) (n * 2 ^ 39)) t)
-
-zero-total : (h : Held) → T (isZero h) → totalOf h ≡ pos 0
-unfolding isZero
-zero-total h t =
-    let a = eqb→eq (h .residue) 0 (and-l (eqb (h .residue) 0) (eqb (natAbs (h .carry)) 0) t) in
-    let b = size-zero (h .carry) (eqb→eq (natAbs (h .carry)) 0 (and-r (eqb (h .residue) 0) (eqb (natAbs (h .carry)) 0) t)) in
-    rw (a, b)
-
-below-zero : (i t : ℕ) (h : Held) → T (leb i t || isZero h) → t < i → totalOf h ≡ pos 0
-below-zero i t h p l = zero-total h (subst (λ (b : Bool). T (b || isZero h)) (lt-leb i t l) p)
+empty-total : (h : Held) → Empty h → totalOf h ≡ pos 0
+empty-total h e = rw (e .0, e .1)
 
 pub section-proper : (r : Record) → r .key < 2 ^ 32 → T (soundRecord r) → Proper (meaning r)
 section-proper r k t =
@@ -61,8 +40,8 @@ section-proper r k t =
       high = total-bound (r .count) (r .high) (p .high);
       middle = total-bound (r .count) (r .middle) (p .middle);
       low = total-bound (r .count) (r .low) (p .low);
-      second = below-zero 1 (r .top) (r .middle) (p .second);
-      third = below-zero 2 (r .top) (r .low) (p .third);
+      second = λ l. empty-total (r .middle) (p .second l);
+      third = λ l. empty-total (r .low) (p .third l);
     }
 
 pub record-meaning : (r : Record) → T (soundRecord r) → recordOf (meaning r) ≡ r
@@ -92,9 +71,10 @@ records-small s g = cells-all Small 64 decode small g s
 fits-all : (rs : List Record) → All Small rs → T (soundRecords rs) → All Fits (map meaning rs)
 unfolding soundRecords
 fits-all [] a t = tt
-fits-all (r ∷ rs) a t =
-    (record { proper = section-proper r (a .0 .0) (and-l (soundRecord r) (soundRecords rs) t); few = omega (arith, a .0 .1) },
-    fits-all rs (a .1) (and-r (soundRecord r) (soundRecords rs) t))
+fits-all (r ∷ rs) a t = (
+  record { proper = section-proper r (a .0 .0) (and-l (soundRecord r) (soundRecords rs) t); few = omega (arith, a .0 .1) },
+  fits-all rs (a .1) (and-r (soundRecord r) (soundRecords rs) t),
+)
 
 rising-keys : (rs : List Record) → T (rising (keys rs)) → Rising (keysIn (map meaning rs))
 unfolding rising

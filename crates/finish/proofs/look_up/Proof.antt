@@ -4,7 +4,8 @@ use lib.ListN.{length}
 use Rattle.record.specs.declared.Record.{Record}
 use Rattle.record.specs.Layout.{recordAt}
 use denote.Ref.{now}
-use Rattle.finish.proofs.Tables.{found, missing, not-true, not-false}
+use borrow.Author.Tests.{not-true, not-false}
+use Rattle.record.proofs.Found.{found, missing}
 use mathlib.Core.Path.{_≡_, sym, ap, _∙_, subst}
 use mathlib.Core.Bool.{Bool, true}
 use lib.Dec.{T}

@@ -1,16 +1,9 @@
 -- `combined` is the definition, field by field.
-use Prim.Native.Nat.{_+_, _≤_, max}
-use mathlib.Core.Path.{_≡_, ap, _∙_}
+use Prim.Native.Nat.{_≤_, max}
 use native.Mathlib.Omega.{arith}
-use lib.Dec.{T}
 use borrow.Author.Needs.{needs}
-use Rattle.level.specs.Carry.{heldOf}
-use Rattle.record.specs.Sound.{soundRecord}
-use Rattle.level.specs.Level.{below}
-use Rattle.record.specs.Section.{meaning}
 use Rattle.table.specs.Combine.{combine}
-use Rattle.table.specs.Steps.{bothAt}
-use Rattle.table.proofs.Totals.{sound-record-parts}
+use Rattle.record.proofs.Parts.{sound-record-parts}
 use Rattle.table.proofs.combined.Statement.{statement}
 use Rattle.table.proofs.combined.Tie as tie
 

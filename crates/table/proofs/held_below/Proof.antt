@@ -1,12 +1,11 @@
 -- `held_below` adds what the two records hold at the level.
-use Prim.Native.Nat.{ℕ, _-_, _^_, _<_}
-use mathlib.Core.Path.{_≡_, ap, ap₂, _∙_}
+use Prim.Native.Nat.{_-_, _^_, _<_}
+use mathlib.Core.Path.{ap, ap₂, _∙_}
 use native.Mathlib.Omega.{arith}
 use borrow.Author.Needs.{needs}
 use borrow.Author.Tests.{le-leb, lt-leb}
 use lib.IntN.{_+ℤ_}
 use Rattle.level.specs.Carry.{heldOf, totalOf}
-use Rattle.table.specs.Steps.{heldIn}
 use Rattle.table.proofs.Totals.{held-level, held-in-range}
 use Rattle.table.proofs.held_below.Statement.{statement}
 use Rattle.table.proofs.held_below.Tie as tie

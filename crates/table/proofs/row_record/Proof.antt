@@ -9,8 +9,6 @@ use Rattle.level.specs.Carry.{heldOf}
 use Rattle.table.specs.Combine.{ofRow}
 use Rattle.table.proofs.row_record.Statement.{statement}
 use Rattle.table.proofs.row_record.Tie as tie
-use Rattle.table.proofs.row_record.Reads as reads
-use Rattle.table.proofs.row_record.Lts as lts
 
 contributions-of-requires : tie.Need-contributions-of-requires
 contributions-of-requires c κs = search needs

@@ -1,0 +1,2 @@
+-- The book's figures are those of the definitions.
+pub mod Figures

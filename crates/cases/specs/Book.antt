@@ -1,0 +1,103 @@
+-- B1 to B12: the rows of a section, and what document 01 says of them. Totals run from the top down.
+use Prim.Native.Nat.{ℕ, _^_}
+use mathlib.Core.List.{List, [], _∷_, map}
+use mathlib.Core.Option.{Option, none, some}
+use lib.IntN.{ℤ, pos, negsuc, negℤ}
+use lib.Ieee.{Float, binary64, add, ofBits, toBits}
+use Rattle.refusal.specs.Outcome.{Outcome, accepted, refused}
+use Rattle.level.specs.Carry.{carryOf, residueOf}
+use Rattle.record.specs.Section.{Section, find}
+use Rattle.table.specs.Combine.{added}
+use Rattle.finish.specs.Finish.{sumOf, figureOf}
+
+-- a figure of the book
+pub data Figure : Type 0 where
+  -- the top and the three totals
+  totals : ℕ → ℤ → ℤ → ℤ → Figure
+  -- the top and the first total
+  first : ℕ → ℤ → Figure
+  -- the first residue and carry
+  split : ℕ → ℤ → Figure
+  -- the sum's 64 bits, or its refusal
+  sum : Outcome ℕ → Figure
+  -- the mill figure, or its refusal
+  mill : Outcome ℤ → Figure
+  -- what left-to-right addition of the doubles gives, as bits
+  leftToRight : ℕ → Figure
+
+-- the rows of a section and a figure of them
+pub record Case : Type 0 where
+  pub rows : List ℕ
+  pub figure : Figure
+
+-- ---- what the definitions give
+
+-- the section of these rows after an add to an empty table
+unfoldable pub section : List ℕ → Option Section
+section bs = find 1 (added [] (map (λ (b : ℕ). record { key = 1; bits = b }) bs))
+
+-- the bits of an accepted sum
+abbrev pub bitsOf : Outcome Float → Outcome ℕ
+bitsOf (accepted x) = accepted (toBits binary64 x)
+bitsOf (refused n) = refused n
+
+-- doubles added from left to right
+unfoldable pub addedUp : Float → List ℕ → Float
+addedUp x [] = x
+addedUp x (b ∷ bs) = addedUp (add binary64 x (ofBits binary64 b)) bs
+
+-- a section that is there; its row count is 0 where it is not
+abbrev pub there : Option Section → Section
+there none = record { key = 0; count = 0; top = 0; high = pos 0; middle = pos 0; low = pos 0 }
+there (some s) = s
+
+-- the figure of the same kind that a section has
+abbrev pub of : Option Section → List ℕ → Figure → Figure
+of o bs (totals a b c d) = totals (there o .top) (there o .high) (there o .middle) (there o .low)
+of o bs (first a b) = first (there o .top) (there o .high)
+of o bs (split a b) = split (residueOf (there o .high)) (carryOf (there o .high))
+of o bs (sum a) = sum (bitsOf (sumOf o))
+of o bs (mill a) = mill (figureOf o)
+of o bs (leftToRight a) = leftToRight (toBits binary64 (addedUp (ofBits binary64 0) bs))
+
+abbrev pub computed : Case → Figure
+computed c = of (section (c .rows)) (c .rows) (c .figure)
+
+-- ---- the book
+
+abbrev one : ℕ
+one = 0x3FF0000000000000
+
+abbrev row : List ℕ → Figure → Case
+row bs f = record { rows = bs; figure = f }
+
+abbrev pub book : List Case
+book =
+    -- B1: 1; B2: -1; B3: 31.5; B4: 32; B5: 96
+    row (one ∷ []) (totals 26 (pos (2 ^ 34)) (pos 0) (pos 0))
+    ∷ row (0xBFF0000000000000 ∷ []) (split 1125882726973440 (negsuc 0))
+    ∷ row (0x403F800000000000 ∷ []) (first 26 (pos 541165879296))
+    ∷ row (0x4040000000000000 ∷ []) (totals 27 (pos 0) (pos (2 ^ 39)) (pos 0))
+    ∷ row (0x4058000000000000 ∷ []) (totals 27 (pos 2) (negℤ (pos (2 ^ 39))) (pos 0))
+    -- B6: bits 1, and bits 0000007FFFFFFFFF; B7: bits 0000008000000000
+    ∷ row (0x0000000000000001 ∷ []) (totals 0 (pos 1) (pos 0) (pos 0))
+    ∷ row (0x0000007FFFFFFFFF ∷ []) (first 0 (pos 549755813887))
+    ∷ row (0x0000008000000000 ∷ []) (totals 1 (pos 0) (pos (2 ^ 39)) (pos 0))
+    -- B8: both zeros
+    ∷ row (0x0000000000000000 ∷ 0x8000000000000000 ∷ []) (sum (accepted 0))
+    -- B9: in each order, and by left-to-right addition
+    ∷ row (0x3CB0000000000000 ∷ 0x3FEFFFFFFFFFFFFF ∷ 0x3CB0000000000000 ∷ []) (sum (accepted 0x3FF0000000000002))
+    ∷ row (0x3CB0000000000000 ∷ 0x3CB0000000000000 ∷ 0x3FEFFFFFFFFFFFFF ∷ []) (sum (accepted 0x3FF0000000000002))
+    ∷ row (0x3FEFFFFFFFFFFFFF ∷ 0x3CB0000000000000 ∷ 0x3CB0000000000000 ∷ []) (sum (accepted 0x3FF0000000000002))
+    ∷ row (0x3CB0000000000000 ∷ 0x3FEFFFFFFFFFFFFF ∷ 0x3CB0000000000000 ∷ []) (leftToRight 0x3FF0000000000001)
+    -- B10: 2^60, 1, -2^60; and 2^-35 for 1
+    ∷ row (0x43B0000000000000 ∷ one ∷ 0xC3B0000000000000 ∷ []) (sum (accepted one))
+    ∷ row (0x43B0000000000000 ∷ 0x3DC0000000000000 ∷ 0xC3B0000000000000 ∷ []) (sum (accepted 0))
+    -- B11: the largest double once, and twice
+    ∷ row (0x7FEFFFFFFFFFFFFF ∷ []) (sum (accepted 0x7FEFFFFFFFFFFFFF))
+    ∷ row (0x7FEFFFFFFFFFFFFF ∷ 0x7FEFFFFFFFFFFFFF ∷ []) (sum (refused 14))
+    -- B12: 0.125, -0.125 and 21474836
+    ∷ row (0x3FC0000000000000 ∷ []) (mill (accepted (pos 13)))
+    ∷ row (0xBFC0000000000000 ∷ []) (mill (accepted (negℤ (pos 12))))
+    ∷ row (0x41747AE140000000 ∷ []) (mill (accepted (pos 2147483600)))
+    ∷ []

@@ -1,0 +1,2 @@
+-- Document 01's figures for the bench book.
+pub mod Book

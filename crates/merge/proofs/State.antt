@@ -1,0 +1,161 @@
+-- A sound table and its last record; tables whose used bytes agree; what is written at the end.
+use Prim.Native.Nat.{ℕ, zero, suc, _+_, _-_, _*_, _≤_, _<_}
+use mathlib.Core.Path.{_≡_, refl, sym, _∙_, ap, ap₂, subst}
+use mathlib.Core.Bool.{Bool, true, false, _||_, or-false, or-assoc}
+use mathlib.Core.List.{List, [], _∷_, _++_, map, map-append, append-assoc, append-nil}
+use native.Mathlib.Omega.{arith}
+use native.Mathlib.Numerals.{add-one}
+use native.Mathlib.Nat.{lt-trans}
+use borrow.Author.Tests.{le-ltb}
+use lib.Dec.{T, ltb, ltb→lt}
+use lib.Ieee.Fits.{and-l, and-r, and-i}
+use lib.ListN.{length, take, drop, length-append, take-append-drop}
+use lib.Seq.{sets, sets-eq, length-take-le, drop-at}
+use Rattle.codec.specs.Cells.{cells, image}
+use Rattle.codec.proofs.Cells.{cells-add, cells-take, length-cells, image-append}
+use Rattle.codec.proofs.Laws.{AreBytes, numberAt-lt}
+use Rattle.record.specs.declared.Record.{Record}
+use Rattle.record.specs.Layout.{recordAt, records, decode, encode}
+use Rattle.record.specs.Keys.{keys, rising}
+use Rattle.record.specs.Sound.{soundRecord, soundRecords, sound}
+use Rattle.record.specs.Section.{Section, meaning, recordOf, sections, sectionBytes, written}
+use Rattle.record.proofs.Laws.{length-encode, decode-part, getD-records}
+use Rattle.record.proofs.Sound.{sound-parts, sound-made, sound-at}
+use Rattle.table.specs.Calls.{anyOf, overfull}
+use Rattle.table.proofs.Lists.{All, all-append, all-map}
+use Rattle.table.proofs.State.{record-meaning, length-sections, used-bytes}
+use Rattle.merge.specs.Steps.{keyAt, countAt, sectionIn}
+use Rattle.merge.proofs.Merged.{Below}
+
+-- ---- one record more
+records-more : (s : List ℕ) (i : ℕ) → suc i * 64 ≤ length s → records s (suc i) ≡ records s i ++ recordAt s (i * 64) ∷ []
+unfolding cells
+records-more s i h =
+    ap (λ (n : ℕ). records s n) (sym (add-one i))
+    ∙ cells-add 64 decode i 1 s
+    ∙ ap (λ (r : Record). records s i ++ r ∷ []) (decode-part s (i * 64) (omega arith))
+
+pub sections-more : (s : List ℕ) (i : ℕ) → suc i * 64 ≤ length s → sections s (suc i) ≡ sections s i ++ sectionIn s i ∷ []
+sections-more s i h = ap (map meaning) (records-more s i h) ∙ map-append meaning (records s i) (recordAt s (i * 64) ∷ [])
+
+-- ---- the parts of a sound table's condition, from the end
+rising-end : (ks : List ℕ) (k : ℕ) → T (rising (ks ++ k ∷ [])) → T (rising ks) × All (λ (x : ℕ). x < k) ks
+unfolding rising
+rising-end [] k h = (tt, tt)
+rising-end (x ∷ []) k h = (tt, (ltb→lt x k (and-l (ltb x k) true h), tt))
+rising-end (x ∷ y ∷ ys) k h =
+    let a = and-l (ltb x y) (rising (y ∷ (ys ++ k ∷ []))) h in
+    let w = rising-end (y ∷ ys) k (and-r (ltb x y) (rising (y ∷ (ys ++ k ∷ []))) h) in
+    (and-i (ltb x y) (rising (y ∷ ys)) a (w .0), (lt-trans (ltb→lt x y a) (w .1 .0), w .1))
+
+sound-front : (rs : List Record) (r : Record) → T (soundRecords (rs ++ r ∷ [])) → T (soundRecords rs)
+unfolding soundRecords
+sound-front [] r h = tt
+sound-front (x ∷ xs) r h =
+    let rest = soundRecords (xs ++ r ∷ []) in
+    and-i (soundRecord x) (soundRecords xs) (and-l (soundRecord x) rest h) (sound-front xs r (and-r (soundRecord x) rest h))
+
+keys-below : (k : ℕ) (rs : List Record) → All (λ (x : ℕ). x < k) (keys rs) → Below k (map meaning rs)
+keys-below k [] a = tt
+keys-below k (r ∷ rs) a = (a .0, keys-below k rs (a .1))
+
+-- a sound table without its last record is sound, and that record has the largest key
+pub record Prior (s : List ℕ) (i : ℕ) : Type 0 where
+  pub fits : suc i * 64 ≤ length s
+  pub front : T (sound s i)
+  pub below : Below (keyAt s i) (sections s i)
+
+sound-prior : (s : List ℕ) (i : ℕ) → T (sound s (suc i)) → Prior s i
+sound-prior s i h =
+    let p = sound-parts s (suc i) h in
+    let fits : suc i * 64 ≤ length s = p .0 in
+    let e = records-more s i fits in
+    let r = rising-end (keys (records s i)) (keyAt s i) (rw (e, map-append) at (p .2)) in
+    record {
+      fits = fits;
+      front = sound-made s i (omega arith) (omega (arith, p .1)) (r .0) (sound-front (records s i) (recordAt s (i * 64)) (rw e at (p .3)));
+      below = keys-below (keyAt s i) (records s i) (r .1);
+    }
+
+pub prior : (s : List ℕ) (i : ℕ) → T (sound s i) → 0 < i → Prior s (i - 1)
+prior s i h l = let e : i ≡ suc (i - 1) = omega arith in sound-prior s (i - 1) (rw e at h)
+
+-- all keys of a table are below k where the last one is
+pub below-all : (s : List ℕ) (i k : ℕ) → T (sound s i) → (0 < i → keyAt s (i - 1) < k) → Below k (sections s i)
+unfolding cells
+below-all s zero k h l = tt
+below-all s (suc i) k h l =
+    let p = sound-prior s i h in
+    let n : suc i - 1 ≡ i = omega arith in
+    let m : keyAt s i < k = rw n at (l (omega arith)) in
+    subst (Below k) (sym (sections-more s i (p .fits)))
+    (all-append (λ (t : Section). t .key < k) (sections s i) (sectionIn s i ∷ [])
+    (all-map (λ (t : Section). t .key < keyAt s i) (λ (t : Section). t .key < k) (λ t a. lt-trans a m) (sections s i) (p .below)) (m, tt))
+
+-- ---- each record of a sound table
+module _ (s : List ℕ) (i a : ℕ) (h : T (sound s i)) (l : a < i) where
+  pub sound-in : T (soundRecord (recordAt s (a * 64)))
+  sound-in =
+      let p = sound-parts s i h in
+      subst (λ (r : Record). T (soundRecord r)) (getD-records s i (p .0) a (recordAt s 0) l)
+      (sound-at (records s i) a (recordAt s 0) (rw length-cells l) (p .3))
+
+  pub record-in : recordAt s (a * 64) ≡ recordOf (sectionIn s a)
+  record-in = sym (record-meaning (recordAt s (a * 64)) sound-in)
+
+-- its sections written over a sound table change no byte
+pub written-self : (s : List ℕ) (g : ℕ) → T (sound s g) → AreBytes s → written (sections s g) s ≡ s
+written-self s g t h =
+    let n : 64 * length (sections s g) ≡ g * 64 = omega (arith, length-sections s g) in
+    ap₂ (λ (x : List ℕ) (k : ℕ). x ++ drop k s) (sym (used-bytes s g t h)) n ∙ take-append-drop (g * 64) s
+
+pub any-append : {A : Type 0} (f : A → Bool) (xs : List A) (x : A) → anyOf f (xs ++ x ∷ []) ≡ (anyOf f xs || f x)
+unfolding anyOf
+any-append f [] x = or-false (f x)
+any-append f (y ∷ ys) x = ap (λ (b : Bool). f y || b) (any-append f ys x) ∙ sym (or-assoc (f y) (anyOf f ys) (f x))
+
+-- no section of a table is overfull: its count has 32 bits
+pub none-overfull : (s : List ℕ) (i : ℕ) → i * 64 ≤ length s → AreBytes s → anyOf overfull (sections s i) ≡ false
+unfolding cells anyOf
+none-overfull s zero l h = refl
+none-overfull s (suc i) l h =
+    ap (anyOf overfull) (sections-more s i l)
+    ∙ any-append overfull (sections s i) (sectionIn s i)
+    ∙ ap₂ _||_ (none-overfull s i (omega arith) h) (le-ltb 4294967295 (countAt s i) (omega (arith, numberAt-lt 4 (i * 64 + 4) s h)))
+
+-- ---- tables of as many bytes whose used bytes agree
+module _ (s t : List ℕ) (i : ℕ) (same : take (i * 64) s ≡ take (i * 64) t) (long : length s ≡ length t) (fits : i * 64 ≤ length s) where
+  records-agree : records s i ≡ records t i
+  records-agree =
+      sym (cells-take 64 decode i s fits) ∙ ap (cells 64 decode i) same ∙ cells-take 64 decode i t (omega arith)
+
+  pub sections-agree : sections s i ≡ sections t i
+  sections-agree = ap (map meaning) records-agree
+
+  pub sound-agree : T (sound t i) → T (sound s i)
+  unfolding sound
+  sound-agree h = rw (records-agree, long) h
+
+-- ---- one section more, written at its place
+drop-stored : (s e : List ℕ) (i : ℕ) → i + length e ≤ length s → drop i (sets s i e) ≡ e ++ drop (i + length e) s
+drop-stored s e i h =
+    ap (drop i) (sets-eq e s i h ∙ append-assoc (take i s) e (drop (i + length e) s))
+    ∙ drop-at (take i s) (e ++ drop (i + length e) s) i (length-take-le i s (omega arith))
+
+bytes-more : (us : List Section) (x : Section) → sectionBytes (us ++ x ∷ []) ≡ sectionBytes us ++ encode (recordOf x)
+unfolding image
+bytes-more us x =
+    image-append 64 (λ (t : Section). encode (recordOf t)) (λ t. length-encode (recordOf t)) us (x ∷ [])
+    ∙ ap (λ (l : List ℕ). sectionBytes us ++ l) (append-nil (encode (recordOf x)))
+
+pub written-more : (us : List Section) (x : Section) (s : List ℕ) → suc (length us) * 64 ≤ length s
+    → written us (sets s (length us * 64) (encode (recordOf x))) ≡ written (us ++ x ∷ []) s
+written-more us x s h =
+    let e : List ℕ = encode (recordOf x) in
+    let l : length e ≡ 64 = length-encode (recordOf x) in
+    let a : 64 * length us ≡ length us * 64 = omega arith in
+    let b : length us * 64 + length e ≡ 64 * length (us ++ x ∷ []) = omega (arith, length-append us (x ∷ [])) in
+    ap (λ (n : ℕ). sectionBytes us ++ drop n (sets s (length us * 64) e)) a
+    ∙ ap (λ (y : List ℕ). sectionBytes us ++ y) (drop-stored s e (length us * 64) (omega arith))
+    ∙ sym (append-assoc (sectionBytes us) e (drop (length us * 64 + length e) s))
+    ∙ ap₂ (λ (y : List ℕ) (n : ℕ). y ++ drop n s) (sym (bytes-more us x)) b

@@ -1,0 +1,85 @@
+-- The bytes of the first table while the union is written from its end.
+use Prim.Native.Nat.{ℕ, _+_, _-_, _*_, _≤_}
+use mathlib.Core.Path.{_≡_, sym, _∙_, ap, ap₂}
+use mathlib.Core.Bool.{false}
+use mathlib.Core.List.{List}
+use native.Mathlib.Omega.{arith}
+use lib.Dec.{T}
+use lib.ListN.{length, take}
+use lib.Seq.{sets, length-sets}
+use Rattle.codec.proofs.Laws.{AreBytes, take-sets}
+use Rattle.record.specs.declared.Record.{Record}
+use Rattle.record.specs.Layout.{encode}
+use Rattle.record.specs.Sound.{sound}
+use Rattle.record.specs.Section.{Section, sections, recordOf, written}
+use Rattle.table.proofs.Lists.{or-false}
+use Rattle.table.specs.Combine.{merged}
+use Rattle.table.specs.Calls.{anyOf, overfull, mergeSections}
+use Rattle.table.proofs.Lookup.{merged-length}
+use Rattle.merge.specs.declared.Ends.{Ends}
+use Rattle.merge.specs.Steps.{lastSection, Back}
+use Rattle.table.proofs.State.{length-sections}
+use Rattle.merge.proofs.State.{written-self, sections-agree, sound-agree, written-more}
+use Rattle.merge.proofs.Walk.{length-back, any-back, merge-none}
+
+-- the sections of i and j records are still to be written, at the first k places of s; then s₀ has become what it is to be
+pub record Left (s₀ : List ℕ) (g : ℕ) (s′ : List ℕ) (g′ : ℕ) (s : List ℕ) (i j k : ℕ) : Type 0 where
+  pub sound₁ : T (sound s i)
+  pub sound₂ : T (sound s′ j)
+  pub groups : k ≡ length (mergeSections s i s′ j)
+  pub fits : k * 64 ≤ length s
+  pub few : anyOf overfull (mergeSections s i s′ j) ≡ false
+  pub rest : written (mergeSections s i s′ j) s ≡ written (mergeSections s₀ g s′ g′) s₀
+  pub long : length s ≡ length s₀
+  pub bytes : AreBytes s
+
+module _ {s₀ : List ℕ} {g : ℕ} {s′ : List ℕ} {g′ : ℕ} {s : List ℕ} {i j k : ℕ} (t : Left s₀ g s′ g′ s i j k) where
+  pub finished : j ≤ 0 → s ≡ written (mergeSections s₀ g s′ g′) s₀
+  finished h =
+      sym (written-self s i (t .sound₁) (t .bytes)) ∙ ap (λ (x : List Section). written x s) (sym (merge-none s s′ i j h)) ∙ t .rest
+
+  module _ {e : Ends} (b : Back s i s′ j e) where
+    pub room : k ≡ length (mergeSections s (e .i) s′ (e .j)) + 1
+    room = t .groups ∙ length-back b
+
+    pub few-last : overfull (lastSection s i s′ j e) ≡ false
+    few-last = or-false (anyOf overfull (mergeSections s (e .i) s′ (e .j))) (overfull (lastSection s i s′ j e)) (sym (any-back b) ∙ t .few) .1
+
+    -- one section more
+    module _ {r : Record} {s₁ : List ℕ} (p : r ≡ recordOf (lastSection s i s′ j e)) (q : s₁ ≡ sets s ((k - 1) * 64) (encode r)) where
+      n : k - 1 ≡ length (mergeSections s (e .i) s′ (e .j))
+      n = omega (arith, room)
+
+      under : e .i ≤ k - 1
+      under = omega (arith, n, merged-length (sections s (e .i)) (sections s′ (e .j)), length-sections s (e .i))
+
+      long₁ : length s₁ ≡ length s
+      long₁ = ap length q ∙ length-sets s ((k - 1) * 64) (encode r)
+
+      same : take (e .i * 64) s₁ ≡ take (e .i * 64) s
+      same = ap (take (e .i * 64)) q ∙ take-sets s (encode r) ((k - 1) * 64) (e .i * 64) (omega (arith, under))
+
+      inside : e .i * 64 ≤ length s₁
+      inside = omega (arith, under, long₁, t .fits)
+
+      still : mergeSections s₁ (e .i) s′ (e .j) ≡ mergeSections s (e .i) s′ (e .j)
+      still = ap (λ (x : List Section). merged x (sections s′ (e .j))) (sections-agree s₁ s (e .i) same long₁ inside)
+
+      put : s₁ ≡ sets s (length (mergeSections s (e .i) s′ (e .j)) * 64) (encode (recordOf (lastSection s i s′ j e)))
+      put = q ∙ ap₂ (λ (m : ℕ) (x : Record). sets s (m * 64) (encode x)) n p
+
+      pub left-less : AreBytes s₁ → Left s₀ g s′ g′ s₁ (e .i) (e .j) (k - 1)
+      left-less h = record {
+        sound₁ = sound-agree s₁ s (e .i) same long₁ inside (b .sound₁);
+        sound₂ = b .sound₂;
+        groups = n ∙ ap length (sym still);
+        fits = omega (arith, long₁, t .fits);
+        few = ap (anyOf overfull) still ∙ or-false (anyOf overfull (mergeSections s (e .i) s′ (e .j))) (overfull (lastSection s i s′ j e)) (sym (any-back b) ∙ t .few) .0;
+        rest =
+            ap₂ written still put
+            ∙ written-more (mergeSections s (e .i) s′ (e .j)) (lastSection s i s′ j e) s (omega (arith, room, t .fits))
+            ∙ ap (λ (x : List Section). written x s) (sym (b .last))
+            ∙ t .rest;
+        long = long₁ ∙ t .long;
+        bytes = h;
+      }

@@ -1,0 +1,80 @@
+-- `last_record` is the record of the section that is taken away.
+use mathlib.Core.Path.{sym, ap, ap₂, _∙_}
+use native.Mathlib.Omega.{arith}
+use lib.Arith.{lt-of-le-ne}
+use borrow.Author.Tests.{ltb-false}
+use Rattle.record.specs.declared.Record.{Record}
+use Rattle.record.specs.Section.{meaning, recordOf}
+use Rattle.table.specs.Combine.{combine}
+use Rattle.merge.specs.Steps.{lastSection}
+use Rattle.merge.proofs.State.{sound-in, record-in}
+use Rattle.merge.proofs.Walk.{of-second, of-first, of-both, count-both}
+use borrow.Author.Needs.{needs}
+use Rattle.merge.proofs.last_record.Statement.{statement}
+use Rattle.merge.proofs.last_record.Tie as tie
+
+get-requires : tie.Need-get-requires
+get-requires c κs = search needs
+
+returns : tie.Need-returns
+returns c =
+    let s = c .before .before .before .before .before in
+    let a = s .args in
+    let w = s .pre .0 in
+    let t = c .before .if1 .taken in
+    c .get .ensures
+    ∙ record-in (a .second .now) (a .j) (a .e .j) (s .pre .1 .1 .0) (omega (arith, w .fewer, w .second))
+    ∙ ap recordOf (sym (of-second (a .first .now) (a .second .now) (a .i) (a .j) (a .e) t))
+
+get-requires-2 : tie.Need-get-requires-2
+get-requires-2 c κs = search needs
+
+returns-2 : tie.Need-returns-2
+returns-2 c =
+    let s = c .before .before .before .before .before .before .before in
+    let a = s .args in
+    let n = c .before .before .before .if1 .left in
+    c .get2 .ensures
+    ∙ record-in (a .first .now) (a .i) (a .e .i) (s .pre .1 .0) (lt-of-le-ne (s .pre .0 .first) n)
+    ∙ ap recordOf (sym (of-first (a .first .now) (a .second .now) (a .i) (a .j) (a .e) n (c .before .if2 .taken)))
+
+get-requires-3 : tie.Need-get-requires-3
+get-requires-3 c κs = search needs
+
+get-requires-4 : tie.Need-get-requires-4
+get-requires-4 c κs = search needs
+
+combined-requires : tie.Need-combined-requires
+combined-requires c κs =
+    let s = c .before .before .before .before .before .before .before .before in
+    let a = s .args in
+    let m = c .before .before .before .before .if1 .left in
+    let n = c .before .before .if2 .left in
+    let k = ltb-false 4294967295 (lastSection (a .first .now) (a .i) (a .second .now) (a .j) (a .e) .count) (s .pre .1 .1 .1) in
+    rw (c .before .get3 .ensures, c .get4 .ensures) (
+      sound-in (a .first .now) (a .i) (a .e .i) (s .pre .1 .0) (lt-of-le-ne (s .pre .0 .first) m),
+      (
+        sound-in (a .second .now) (a .j) (a .e .j) (s .pre .1 .1 .0) (lt-of-le-ne (s .pre .0 .second) n),
+        omega (arith, count-both (a .first .now) (a .second .now) (a .i) (a .j) (a .e) m n),
+      ),
+    )
+
+returns-3 : tie.Need-returns-3
+returns-3 c =
+    let a = c .before .before .before .before .before .before .before .before .before .args in
+    c .combined .ensures
+    ∙ ap₂ (λ (x y : Record). recordOf (combine (meaning x) (meaning y))) (c .before .before .get3 .ensures) (c .before .get4 .ensures)
+    ∙ ap recordOf (sym (of-both (a .first .now) (a .second .now) (a .i) (a .j) (a .e) (c .before .before .before .before .before .if1 .left) (c .before .before .before .if2 .left)))
+
+pub last-record-spec : {M : Type 1} → statement M
+last-record-spec =
+    tie.close
+    (tie.spec
+    get-requires
+    returns
+    get-requires-2
+    returns-2
+    get-requires-3
+    get-requires-4
+    combined-requires
+    returns-3)

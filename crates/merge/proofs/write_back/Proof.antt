@@ -1,0 +1,74 @@
+-- `write_back` writes the sections from the last one on.
+use Prim.Native.Nat.{_+_}
+use mathlib.Core.Path.{refl}
+use native.Mathlib.Omega.{arith}
+use Rattle.merge.proofs.Writing.{Left, room, few-last, left-less, finished}
+use Rattle.merge.proofs.write_back.Statement.{statement}
+use Rattle.merge.proofs.write_back.Tie as tie
+
+abbrev Inv-loop : tie.InvT-loop
+Inv-loop first₀ g1 second g2 groups a₀ b₀ k₀ first a b k = Left first₀ g1 second g2 first a b k
+
+abbrev μ-loop : tie.MeasureT-loop
+μ-loop first₀ g1 second g2 groups a₀ b₀ k₀ first a b k = a + b
+
+loop-holds : tie.Need-loop-holds Inv-loop μ-loop
+loop-holds c =
+    let p = c .before .before .pre in
+    record {
+      sound₁ = p .0;
+      sound₂ = p .1 .0;
+      few = p .1 .1 .0;
+      groups = p .1 .1 .1 .0;
+      fits = p .1 .1 .1 .1;
+      rest = refl;
+      long = refl;
+      bytes = λ k. c .before .slice-known .given k .fits;
+    }
+
+previous-requires : tie.Need-previous-requires Inv-loop μ-loop
+previous-requires c κs = let v = c .before .before .loop .inv in (v .sound₁, (v .sound₂, omega (arith, c .before .loop-test .taken)))
+
+last-record-requires : tie.Need-last-record-requires Inv-loop μ-loop
+last-record-requires c κs =
+    let v = c .before .before .before .before .loop .inv in
+    let b = c .before .previous .ensures in
+    (b .within, (v .sound₁, (v .sound₂, few-last v b)))
+
+sub-k : tie.Need-sub-k Inv-loop μ-loop
+sub-k c = omega (arith, room (c .before .before .before .before .before .loop .inv) (c .before .before .previous .ensures))
+
+put-requires : tie.Need-put-requires Inv-loop μ-loop
+put-requires c κs =
+    let v = c .before .before .before .before .before .before .loop .inv in
+    omega (arith, room v (c .before .before .before .previous .ensures), v .fits)
+
+loop-less : tie.Need-loop-less Inv-loop μ-loop
+loop-less c = omega (arith, c .before .before .before .before .before .before .previous .ensures .within .fewer)
+
+loop-again : tie.Need-loop-again Inv-loop μ-loop
+loop-again c =
+    left-less (c .before .before .before .before .before .before .before .before .before .loop .inv) (c .before .before .before .before .before .before .previous .ensures)
+    (c .before .before .before .before .last-record .ensures) (c .before .before .put .ensures .0) (λ k. c .slice-known2 .given k .fits)
+
+same-length : tie.Need-same-length Inv-loop μ-loop
+same-length c = c .before .loop .inv .long
+
+returns : tie.Need-returns Inv-loop μ-loop
+returns c = finished (c .before .loop .inv) (c .loop-test .left)
+
+pub write-back-spec : {M : Type 1} → statement M
+write-back-spec =
+    tie.close
+    (tie.spec
+    Inv-loop
+    μ-loop
+    loop-holds
+    previous-requires
+    last-record-requires
+    sub-k
+    put-requires
+    loop-less
+    loop-again
+    same-length
+    returns)

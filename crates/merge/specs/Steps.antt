@@ -1,0 +1,44 @@
+-- What the steps of a merge promise each other: two tables of i and j records are walked from their ends.
+use Prim.Native.Nat.{ℕ, _+_, _*_, _≤_, _<_}
+use mathlib.Core.Path.{_≡_}
+use mathlib.Core.Bool.{cond}
+use mathlib.Core.List.{List, [], _∷_, _++_}
+use lib.Dec.{T, eqb}
+use lib.ListN.{length}
+use Rattle.codec.specs.Bytes.{numberAt}
+use Rattle.record.specs.Layout.{recordAt}
+use Rattle.record.specs.Sound.{sound}
+use Rattle.record.specs.Section.{Section, meaning}
+use Rattle.table.specs.Combine.{combine}
+use Rattle.table.specs.Calls.{mergeSections}
+use Rattle.merge.specs.declared.Ends.{Ends}
+
+-- the key, the row count and the section of record i
+abbrev pub keyAt : List ℕ → ℕ → ℕ
+keyAt s i = numberAt 4 s (i * 64)
+
+abbrev pub countAt : List ℕ → ℕ → ℕ
+countAt s i = numberAt 4 s (i * 64 + 4)
+
+abbrev pub sectionIn : List ℕ → ℕ → Section
+sectionIn s i = meaning (recordAt s (i * 64))
+
+-- one record is taken off the end of one table, or of both
+pub record Within (s : List ℕ) (i : ℕ) (s′ : List ℕ) (j : ℕ) (e : Ends) : Type 0 where
+  pub first : e .i ≤ i
+  pub second : e .j ≤ j
+  pub fewer : e .i + e .j < i + j
+  pub fits : i * 64 ≤ length s
+  pub fits′ : j * 64 ≤ length s′
+
+-- the section of what is taken off
+unfoldable pub lastSection : List ℕ → ℕ → List ℕ → ℕ → Ends → Section
+lastSection s i s′ j e =
+    cond (eqb (e .i) i) (sectionIn s′ (e .j)) (cond (eqb (e .j) j) (sectionIn s (e .i)) (combine (sectionIn s (e .i)) (sectionIn s′ (e .j))))
+
+-- it is the last section of the union, and sound tables are left
+pub record Back (s : List ℕ) (i : ℕ) (s′ : List ℕ) (j : ℕ) (e : Ends) : Type 0 where
+  pub within : Within s i s′ j e
+  pub sound₁ : T (sound s (e .i))
+  pub sound₂ : T (sound s′ (e .j))
+  pub last : mergeSections s i s′ j ≡ mergeSections s (e .i) s′ (e .j) ++ lastSection s i s′ j e ∷ []

@@ -1,0 +1,86 @@
+-- A sound record, condition by condition, and the range of each level.
+use Prim.Native.Nat.{ℕ, _+_, _*_, _^_, _≤_, _<_}
+use mathlib.Core.Path.{_≡_}
+use mathlib.Core.Bool.{Bool, true, false, _&&_, _||_}
+use native.Mathlib.Omega.{arith}
+use lib.Dec.{T, ltb, leb, eqb, ltb→lt, leb→le, eqb→eq}
+use lib.Ieee.Fits.{and-l, and-r}
+use lib.IntN.{ℤ, pos, natAbs, _+ℤ_, _*ℤ_}
+use Rattle.integers.proofs.Diff.{ints, byParts}
+use Rattle.integers.proofs.Laws.{size-zero}
+use Rattle.level.specs.declared.Held.{Held}
+use Rattle.level.specs.Carry.{totalOf}
+use Rattle.record.specs.declared.Record.{Record}
+use Rattle.record.specs.Sound.{soundHeld, soundRecord, isZero}
+
+-- a level that holds 0
+abbrev pub Empty : Held → Type 0
+Empty h = (h .residue ≡ 0) × (h .carry ≡ pos 0)
+
+pub record SoundParts (r : Record) : Type 0 where
+  pub count : 1 ≤ r .count
+  pub top : r .top ≤ 52
+  pub zero : r .zero ≡ 0
+  pub high : T (soundHeld (r .count) (r .high))
+  pub middle : T (soundHeld (r .count) (r .middle))
+  pub low : T (soundHeld (r .count) (r .low))
+  pub second : r .top < 1 → Empty (r .middle)
+  pub third : r .top < 2 → Empty (r .low)
+
+zero-empty : (h : Held) → T (isZero h) → Empty h
+unfolding isZero
+zero-empty h t =
+    let a = eqb (h .residue) 0 in
+    let b = eqb (natAbs (h .carry)) 0 in
+    (eqb→eq (h .residue) 0 (and-l a b t), size-zero (h .carry) (eqb→eq (natAbs (h .carry)) 0 (and-r a b t)))
+
+below-empty : (j t : ℕ) (h : Held) → T (leb j t || isZero h) → t < j → Empty h
+below-empty j t h = by (leb j t) (leb→le j t)
+  where
+    by : (b : Bool) → (T b → j ≤ t) → T (b || isZero h) → t < j → Empty h
+    by true f o l = let m = f tt in absurd (omega arith)
+    by false f o l = zero-empty h o
+
+pub sound-record-parts : (r : Record) → T (soundRecord r) → SoundParts r
+unfolding soundRecord
+sound-record-parts r h =
+    let a = leb 1 (r .count) in
+    let b = leb (r .top) 52 in
+    let c = eqb (r .zero) 0 in
+    let d = soundHeld (r .count) (r .high) in
+    let e = soundHeld (r .count) (r .middle) in
+    let f = soundHeld (r .count) (r .low) in
+    let g = leb 1 (r .top) || isZero (r .middle) in
+    let k = leb 2 (r .top) || isZero (r .low) in
+    let h7 = and-l (a && b && c && d && e && f && g) k h in
+    let h6 = and-l (a && b && c && d && e && f) g h7 in
+    let h5 = and-l (a && b && c && d && e) f h6 in
+    let h4 = and-l (a && b && c && d) e h5 in
+    let h3 = and-l (a && b && c) d h4 in
+    let h2 = and-l (a && b) c h3 in
+    record {
+      count = leb→le 1 (r .count) (and-l a b h2);
+      top = leb→le (r .top) 52 (and-r a b h2);
+      zero = eqb→eq (r .zero) 0 (and-r (a && b) c h3);
+      high = and-r (a && b && c) d h4;
+      middle = and-r (a && b && c && d) e h5;
+      low = and-r (a && b && c && d && e) f h6;
+      second = below-empty 1 (r .top) (r .middle) (and-r (a && b && c && d && e && f) g h7);
+      third = below-empty 2 (r .top) (r .low) (and-r (a && b && c && d && e && f && g) k h);
+    }
+
+-- ---- a level: its residue and its total are bounded, and with fewer than 2^32 rows so is its carry
+carry-small : (s : ℕ) (z : ℤ) → natAbs z * 2 ^ 50 ≤ natAbs (z *ℤ pos (2 ^ 50) +ℤ pos s) + s
+carry-small s = byParts _ (λ a b. simp ints (omega arith))
+
+module _ (n : ℕ) (h : Held) (t : T (soundHeld n h)) where
+  pub residue-bound : h .residue < 2 ^ 50
+  unfolding soundHeld
+  residue-bound = ltb→lt (h .residue) (2 ^ 50) (and-l (ltb (h .residue) (2 ^ 50)) (leb (natAbs (totalOf h)) (n * 2 ^ 39)) t)
+
+  pub total-bound : natAbs (totalOf h) ≤ n * 2 ^ 39
+  unfolding soundHeld
+  total-bound = leb→le (natAbs (totalOf h)) (n * 2 ^ 39) (and-r (ltb (h .residue) (2 ^ 50)) (leb (natAbs (totalOf h)) (n * 2 ^ 39)) t)
+
+  pub carry-bound : n < 2 ^ 32 → natAbs (h .carry) < 2 ^ 22
+  carry-bound l = omega (arith, residue-bound, total-bound, carry-small (h .residue) (h .carry))
