@@ -12,13 +12,20 @@ merge-requires : tie.Need-merge-requires
 merge-requires c κs = search needs
 
 groups-or-minus-requires : tie.Need-groups-or-minus-requires
-groups-or-minus-requires c κs = ?
+groups-or-minus-requires c κs =
+    let a = c .before .before .merge in
+    let s = c .before .before .before .before .before .before .args in
+    λ n e. merge-groups (s .first .now) (s .g1) (s .second .now) (s .g2) n (sym (a .ensures .0) ∙ e)
 
 same-length : tie.Need-same-length
 same-length c = search needs
 
 returns : tie.Need-returns
-returns c = ?
+returns c =
+    let a = c .before .before .before .merge in
+    let w = c .groups-or-minus in
+    let f : SFits w64 (w .result) = search needs in
+    (toZ-ofZ w64 (w .result) f ∙ w .ensures ∙ ap (returned count) (a .ensures .0), a .ensures .1)
 
 pub girth-merge-spec : {M : Type 1} → statement M
 girth-merge-spec =

@@ -1,0 +1,40 @@
+/* The calls of the proved library, for C. Build the archive with `rt staticlib exports`, and link target/staticlib/libexports.a.
+ *
+ * A slice is a pointer and a length in bytes. The pointer is not null, even for length 0, and no lent buffer overlaps another that is
+ * lent for writing. A call returns a number of at least 0, or minus the refusal's number; what it writes out is 0 when it is refused.
+ * A refused call changes no byte of a table. */
+#ifndef GIRTHS_H
+#define GIRTHS_H
+
+#include <stddef.h>
+#include <stdint.h>
+
+#ifdef __cplusplus
+extern "C" {
+#endif
+
+/* The row count of a patch file, or -1 to -6. The columns start so many bytes after the front: 4n bytes of keys, 8n of values. */
+int64_t girth_read(const uint8_t *file, size_t file_len, uint64_t *keys_at, uint64_t *values_at);
+
+/* Adds the rows of two columns to a table of g records: the new group count, or -7 to -12. A table has 64 bytes a group, 1,024 groups at
+ * most. The work buffer is at least as long as the table, and holds only zeros afterwards. */
+int64_t girth_add(uint8_t *table, size_t table_len, uint64_t g, const uint8_t *keys, size_t keys_len, const uint8_t *values,
+                  size_t values_len, uint8_t *work, size_t work_len);
+
+/* Merges a table of g2 records into one of g1: the first one's new group count, or -7, -11 or -12. */
+int64_t girth_merge(uint8_t *first, size_t first_len, uint64_t g1, const uint8_t *second, size_t second_len, uint64_t g2);
+
+/* The sum of a section, as the 64 bits of a double: 0, or -7, -13 or -14. */
+int64_t girth_sum(const uint8_t *table, size_t table_len, uint64_t g, uint32_t key, uint64_t *bits);
+
+/* The mill figure of a section: 0, or -7, -13, -14 or -15. */
+int64_t girth_figure(const uint8_t *table, size_t table_len, uint64_t g, uint32_t key, int64_t *figure);
+
+/* The finished line of a section: 0, or -7, -13, -14 or -15. */
+int64_t girth_line(const uint8_t *table, size_t table_len, uint64_t g, uint32_t key, uint64_t *count, uint64_t *bits, int64_t *figure);
+
+#ifdef __cplusplus
+}
+#endif
+
+#endif

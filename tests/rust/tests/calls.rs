@@ -1,0 +1,397 @@
+//! The library's calls beside the exact model, on documents' figures and on random and damaged input.
+mod model;
+use model::{Big, Section};
+use std::collections::BTreeMap;
+
+struct Random(u64);
+
+impl Random {
+    fn next(&mut self) -> u64 {
+        self.0 ^= self.0 << 13;
+        self.0 ^= self.0 >> 7;
+        self.0 ^= self.0 << 17;
+        self.0.wrapping_mul(0x2545F4914F6CDD1D)
+    }
+
+    fn below(&mut self, n: u64) -> u64 {
+        (self.next() >> 11) % n
+    }
+
+    fn chance(&mut self, n: u64) -> bool {
+        self.below(n) == 0
+    }
+
+    fn bytes(&mut self, n: usize) -> Vec<u8> {
+        (0..n).map(|_| self.next() as u8).collect()
+    }
+
+    fn shuffle<T>(&mut self, v: &mut [T]) {
+        for i in (1..v.len()).rev() {
+            v.swap(i, self.below(i as u64 + 1) as usize);
+        }
+    }
+
+    /// A finite row; fields lie close together around a middle, so that rows meet on the same levels.
+    fn row(&mut self, middle: u64) -> u64 {
+        let sign = self.below(2) << 63;
+        let field = match self.below(8) {
+            0 => self.below(2047),
+            1 => 0,
+            2 => 1 + self.below(80),
+            3 => (middle + self.below(200)).min(2046),
+            _ => (middle + self.below(60)).min(2046),
+        };
+        let fraction = match self.below(4) {
+            0 => 0,
+            1 => self.next() >> 12 << self.below(52) & ((1 << 52) - 1),
+            _ => self.next() >> 12,
+        };
+        sign | field << 52 | fraction
+    }
+
+    /// A row that leaves an exact half of a level's unit, or stands at its edge.
+    fn half(&mut self) -> u64 {
+        let e = 40 * self.below(52) + 39 + self.below(2);
+        let odd = self.below(1 << 20) * 2 + self.below(2);
+        let b = model::nearest_double(Big::from(odd as i128).shl((e as usize).min(2070)));
+        b | self.below(2) << 63
+    }
+
+    fn rows(&mut self, n: usize) -> Vec<u64> {
+        let middle = self.below(2047);
+        let mut rows = Vec::new();
+        while rows.len() < n {
+            let r = if self.chance(4) { self.half() } else { self.row(middle) };
+            rows.push(r);
+            if self.chance(4) && rows.len() < n {
+                rows.push(r ^ 1 << 63);
+            }
+        }
+        rows
+    }
+}
+
+fn columns(rows: &[(u32, u64)]) -> (Vec<u8>, Vec<u8>) {
+    (rows.iter().flat_map(|r| r.0.to_le_bytes()).collect(), rows.iter().flat_map(|r| r.1.to_le_bytes()).collect())
+}
+
+fn of_values(rows: &[u64]) -> (Vec<u8>, u64) {
+    let mut t = vec![0; 64];
+    let (k, v) = columns(&rows.iter().map(|&b| (7, b)).collect::<Vec<_>>());
+    let g = girths::add(&mut t, 0, &k, &v, &mut [0; 64]).unwrap();
+    (t, g)
+}
+
+/// One add, compared with the model: the answer, every byte of the table, the work buffer.
+fn add_both(table: &mut Vec<u8>, g: u64, keys: &[u8], values: &[u8], work: &mut [u8]) -> Result<u64, u32> {
+    let expected = model::add(table, g, keys, values, work.len());
+    let before = table.clone();
+    let got = girths::add(table, g, keys, values, work);
+    assert!(work.iter().all(|&x| x == 0), "the work buffer holds zeros");
+    match &expected {
+        Ok((n, bytes)) => assert!(got == Ok(*n) && table == bytes, "{got:?}, expected {n}"),
+        Err(e) => assert!(got == Err(*e) && *table == before, "{got:?}, expected refusal {e}"),
+    }
+    got
+}
+
+fn merge_both(first: &mut Vec<u8>, g1: u64, second: &[u8], g2: u64) -> Result<u64, u32> {
+    let expected = model::merge(first, g1, second, g2);
+    let before = first.clone();
+    let got = girths::merge(first, g1, second, g2);
+    match &expected {
+        Ok((n, bytes)) => assert!(got == Ok(*n) && first == bytes, "{got:?}, expected {n}"),
+        Err(e) => assert!(got == Err(*e) && *first == before, "{got:?}, expected refusal {e}"),
+    }
+    got
+}
+
+fn finish_both(table: &[u8], g: u64, key: u32) -> Result<i64, u32> {
+    let s = model::find(table, g, key);
+    let sum = s.clone().and_then(|s| s.sum());
+    let figure = s.clone().and_then(|s| s.figure());
+    let line = s.and_then(|s| Ok(girths::Line { count: s.count, bits: s.sum()?, figure: s.figure()? }));
+    assert_eq!(girths::sum(table, g, key), sum);
+    assert_eq!(girths::figure(table, g, key), figure);
+    assert_eq!(girths::line(table, g, key), line);
+    figure
+}
+
+fn file(notes: &[u8], keys: &[u8], between: &[u8], values: &[u8], after: &[u8], values_first: bool) -> Vec<u8> {
+    let (a, b) = if values_first { (values, keys) } else { (keys, values) };
+    let mut f = [notes, a, between, b, after].concat();
+    let (first, second) = (f.len() - notes.len() + 16, b.len() + after.len() + 16);
+    let (k, v) = if values_first { (second, first) } else { (first, second) };
+    for x in [keys.len() / 4, k, v] {
+        f.extend((x as u32).to_le_bytes());
+    }
+    f.extend([0x4C, 0x41, 0x53, 0x54]);
+    f
+}
+
+fn read_both(file: &[u8]) -> Result<usize, u32> {
+    let got = girths::read(file);
+    match model::read(file) {
+        Ok((n, k, v)) => {
+            let c = got.unwrap();
+            assert_eq!((c.rows, c.keys, c.values), (n, &file[k..k + 4 * n], &file[v..v + 8 * n]));
+        }
+        Err(e) => assert_eq!(got, Err(e)),
+    }
+    got.map(|c| c.rows)
+}
+
+#[test]
+fn bench_book() {
+    let one = |b: u64| Section::of_rows(&[b]);
+    let section = |rows: &[u64]| {
+        let (t, g) = of_values(rows);
+        model::find(&t, g, 7).unwrap()
+    };
+    for (bits, top, totals) in [
+        (1f64.to_bits(), 26, [1 << 34, 0, 0]),
+        (32f64.to_bits(), 27, [0, 1 << 39, 0]),
+        (96f64.to_bits(), 27, [2, -(1 << 39), 0]),
+        (1, 0, [1, 0, 0]),
+        (0x7FFFFFFFFF, 0, [549755813887, 0, 0]),
+        (0x8000000000, 1, [0, 1 << 39, 0]),
+    ] {
+        assert_eq!(section(&[bits]), Section { count: 1, top, totals });
+        assert_eq!(one(bits), section(&[bits]));
+    }
+    assert_eq!(section(&[31.5f64.to_bits()]).totals[0], 541165879296);
+    let (t, _) = of_values(&[(-1f64).to_bits()]);
+    assert_eq!(t[16..32], [1125882726973440u64.to_le_bytes(), (-1i64).to_le_bytes()].concat());
+    let sum = |rows: &[u64]| {
+        let (t, g) = of_values(rows);
+        finish_both(&t, g, 7).ok();
+        girths::sum(&t, g, 7)
+    };
+    assert_eq!(sum(&[0, 1 << 63]), Ok(0));
+    let (a, b) = (0x3CB0000000000000, 0x3FEFFFFFFFFFFFFF);
+    for order in [[a, b, a], [a, a, b], [b, a, a]] {
+        assert_eq!(sum(&order), Ok(0x3FF0000000000002));
+    }
+    let big = 2f64.powi(60);
+    assert_eq!(sum(&[big.to_bits(), 1f64.to_bits(), (-big).to_bits()]), Ok(1f64.to_bits()));
+    assert_eq!(sum(&[big.to_bits(), 2f64.powi(-35).to_bits(), (-big).to_bits()]), Ok(0));
+    assert_eq!(sum(&[0x7FEFFFFFFFFFFFFF]), Ok(0x7FEFFFFFFFFFFFFF));
+    assert_eq!(sum(&[0x7FEFFFFFFFFFFFFF; 2]), Err(14));
+    let figure = |x: f64| {
+        let (t, g) = of_values(&[x.to_bits()]);
+        finish_both(&t, g, 7)
+    };
+    assert_eq!((figure(0.125), figure(-0.125), figure(21474836.0)), (Ok(13), Ok(-12), Ok(2147483600)));
+    for (n, carry, residue) in [(65535, 0i64, (1u64 << 50) - (1 << 34)), (65536, 1, 0)] {
+        let (t, _) = of_values(&vec![1f64.to_bits(); n]);
+        assert_eq!(t[16..32], [residue.to_le_bytes(), carry.to_le_bytes()].concat());
+    }
+}
+
+/// Document 01's small example of each refusal.
+#[test]
+fn every_refusal() {
+    let trailer = |n: u32, k: u32, v: u32| {
+        [&n.to_le_bytes()[..], &k.to_le_bytes(), &v.to_le_bytes(), &[0x4C, 0x41, 0x53, 0x54]].concat()
+    };
+    assert_eq!(read_both(&vec![0; 65537]), Err(1));
+    assert_eq!(read_both(&[]), Err(2));
+    assert_eq!(read_both(&[0; 16]), Err(3));
+    assert_eq!(read_both(&trailer(0, 15, 16)), Err(4));
+    assert_eq!(read_both(&trailer(0, 16, 17)), Err(5));
+    assert_eq!(read_both(&[vec![0; 12], trailer(1, 24, 24)].concat()), Err(6));
+    let one = 1f64.to_bits().to_le_bytes();
+    let key = |k: u32| k.to_le_bytes();
+    assert_eq!(add_both(&mut vec![], 1, &[], &[], &mut []), Err(7));
+    assert_eq!(add_both(&mut vec![5; 64], 0, &[], &[], &mut [9; 63]), Err(8));
+    assert_eq!(add_both(&mut vec![5; 64], 0, &[0; 8], &[0; 8], &mut [9; 64]), Err(9));
+    assert_eq!(add_both(&mut vec![5; 64], 0, &key(1), &0x7FF0000000000000u64.to_le_bytes(), &mut [9; 64]), Err(10));
+    let mut full = Section { count: 4294967295, top: 26, totals: [1 << 34, 0, 0] }.bytes(1);
+    assert_eq!(add_both(&mut full, 1, &key(1), &one, &mut [9; 64]), Err(11));
+    let other = full.clone();
+    assert_eq!(merge_both(&mut full, 1, &other, 1), Err(11));
+    let two = [key(1), key(2)].concat();
+    assert_eq!(add_both(&mut vec![5; 64], 0, &two, &[one, one].concat(), &mut [9; 64]), Err(12));
+    assert_eq!(finish_both(&[0; 64], 0, 5), Err(13));
+    let (t, g) = of_values(&[0x7FEFFFFFFFFFFFFF; 2]);
+    assert_eq!(finish_both(&t, g, 7), Err(14));
+    let (t, g) = of_values(&[21474836.5f64.to_bits()]);
+    assert_eq!(finish_both(&t, g, 7), Err(15));
+    assert_eq!(finish_both(&t, 2, 7), Err(7));
+}
+
+#[test]
+fn files() {
+    let mut r = Random(1);
+    let mut seen = [0; 7];
+    for turn in 0..40000 {
+        let n = r.below(if turn % 50 == 0 { 5461 } else { 12 }) as usize;
+        let (a, b, c) = (r.below(9) as usize, r.below(9) as usize, r.below(9) as usize);
+        let (k, v) = (r.bytes(4 * n), r.bytes(8 * n));
+        let mut f = file(&r.bytes(a), &k, &r.bytes(b), &v, &r.bytes(c), r.chance(2));
+        for _ in 0..r.below(3) {
+            let at = f.len() - 1 - r.below(16) as usize;
+            f[at] = if r.chance(2) { r.below(64) as u8 } else { f[at].wrapping_add(r.below(17) as u8).wrapping_sub(8) };
+        }
+        if r.chance(20) {
+            f.truncate(r.below(40) as usize);
+        }
+        if r.chance(400) {
+            f = [vec![0; 65530], f].concat();
+        }
+        seen[read_both(&f).err().unwrap_or(0) as usize] += 1;
+    }
+    assert!(seen.iter().all(|&n| n > 0), "{seen:?}");
+}
+
+/// A sound record with totals of any size that its count allows.
+fn record(r: &mut Random) -> Section {
+    let count = if r.chance(3) { 4294967295 - r.below(4) } else { 1 + r.below(1000) };
+    let top = if r.chance(4) { r.below(3) as u32 } else { r.below(53) as u32 };
+    let mut totals = [0; 3];
+    for i in 0..3 {
+        if top >= i as u32 {
+            let most = (count as i128) << 39;
+            totals[i] = match r.below(4) {
+                0 => most,
+                1 => -most,
+                2 => 0,
+                _ => ((r.next() >> 1) as i128 * (r.next() >> 1) as i128) % (2 * most + 1) - most,
+            };
+        }
+    }
+    Section { count, top, totals }
+}
+
+fn table(r: &mut Random, groups: usize, room: usize, span: u64) -> (Vec<u8>, u64) {
+    let mut map = BTreeMap::new();
+    for _ in 0..groups.min(room) {
+        map.insert(r.below(span) as u32, record(r));
+    }
+    let spare = r.below(64) as usize;
+    let buffer = r.bytes(64 * room + spare);
+    (model::written(&map, &buffer), map.len() as u64)
+}
+
+/// Damage that soundness has to see, or that leaves a sound table.
+fn damage(r: &mut Random, t: &mut [u8], g: &mut u64) {
+    match r.below(8) {
+        0 => *g += r.below(3),
+        1 if !t.is_empty() => {
+            let at = r.below(t.len() as u64) as usize;
+            t[at] ^= 1 << r.below(8);
+        }
+        2 if *g > 0 => {
+            let at = 64 * r.below(*g) as usize + 4 * r.below(16) as usize;
+            t[at..at + 4].copy_from_slice(&[[0; 4], [255; 4], [53, 0, 0, 0], [0, 0, 4, 0]][r.below(4) as usize]);
+        }
+        _ => {}
+    }
+}
+
+#[test]
+fn adds() {
+    let mut r = Random(2);
+    let mut seen = [0; 13];
+    for _ in 0..4000 {
+        let room = r.below(12) as usize;
+        let span = 1 + r.below(16);
+        let groups = r.below(12) as usize;
+        let (mut t, mut g) = table(&mut r, groups, room, span);
+        damage(&mut r, &mut t, &mut g);
+        for _ in 0..3 {
+            let n = r.below(12) as usize;
+            let rows: Vec<(u32, u64)> = r.rows(n).into_iter().map(|b| (r.below(span) as u32, b)).collect();
+            let (mut k, mut v) = columns(&rows);
+            if r.chance(12) {
+                k.truncate(k.len() - r.below(9).min(k.len() as u64) as usize);
+            }
+            if r.chance(12) && n > 0 {
+                let at = 8 * r.below(n as u64) as usize;
+                if at + 8 <= v.len() {
+                    v[at + 6..at + 8].copy_from_slice(&[0xF0 + r.below(16) as u8, 0x7F | (r.below(2) as u8) << 7]);
+                }
+            }
+            let short = if r.chance(12) { 1 + r.below(64) as usize } else { 0 };
+            let longer = r.below(64) as usize;
+            let mut work = r.bytes((t.len() + longer).saturating_sub(if short > 0 { short + longer } else { 0 }));
+            match add_both(&mut t, g, &k, &v, &mut work) {
+                Ok(n) => {
+                    g = n;
+                    seen[0] += 1;
+                }
+                Err(e) => seen[e as usize] += 1,
+            }
+        }
+        for key in 0..span as u32 + 1 {
+            finish_both(&t, g, key).ok();
+        }
+    }
+    assert!(seen[0] > 100 && seen[7..].iter().all(|&n| n > 0), "{seen:?}");
+}
+
+#[test]
+fn merges() {
+    let mut r = Random(3);
+    let mut seen = [0; 13];
+    for _ in 0..8000 {
+        let (room, span) = (r.below(14) as usize, 1 + r.below(16));
+        let (groups, others, width) = (r.below(10) as usize, r.below(10) as usize, r.below(14) as usize);
+        let (mut a, mut g1) = table(&mut r, groups, room, span);
+        let (mut b, mut g2) = table(&mut r, others, width, span);
+        damage(&mut r, &mut a, &mut g1);
+        damage(&mut r, &mut b, &mut g2);
+        seen[merge_both(&mut a, g1, &b, g2).err().unwrap_or(0) as usize] += 1;
+    }
+    assert!([0, 7, 11, 12].iter().all(|&i| seen[i] > 0), "{seen:?}");
+}
+
+/// One heap of rows in many orders, splits and merges.
+#[test]
+fn same_bytes() {
+    let mut r = Random(4);
+    for _ in 0..150 {
+        let n = 1 + r.below(120) as usize;
+        let span = 1 + r.below(20);
+        let mut rows: Vec<(u32, u64)> = r.rows(n).into_iter().map(|b| (r.below(span) as u32, b)).collect();
+        let mut expected: Option<Vec<u8>> = None;
+        for _ in 0..12 {
+            r.shuffle(&mut rows);
+            let mut tables = vec![(r.bytes(64 * 24), 0u64); 1 + r.below(4) as usize];
+            let mut rest = &rows[..];
+            while !rest.is_empty() {
+                let (now, later) = rest.split_at(1 + r.below(rest.len() as u64) as usize);
+                rest = later;
+                let (k, v) = columns(now);
+                let which = r.below(tables.len() as u64) as usize;
+                let (t, g) = &mut tables[which];
+                *g = girths::add(t, *g, &k, &v, &mut vec![1; 64 * 24]).unwrap();
+            }
+            while tables.len() > 1 {
+                let from = r.below(tables.len() as u64) as usize;
+                let (second, g2) = tables.swap_remove(from);
+                let into = r.below(tables.len() as u64) as usize;
+                let (first, g1) = &mut tables[into];
+                *g1 = girths::merge(first, *g1, &second, g2).unwrap();
+            }
+            let (t, g) = &tables[0];
+            let used = t[..64 * *g as usize].to_vec();
+            assert_eq!(*expected.get_or_insert(used.clone()), used);
+        }
+    }
+}
+
+/// The distance of demand 3: the kept value lies within n x largest x 2^-80 of the exact sum.
+#[test]
+fn distance() {
+    let mut r = Random(5);
+    for turn in 0..1500 {
+        let n = 1 + r.below(if turn % 10 == 0 { 2000 } else { 60 }) as usize;
+        let rows = r.rows(n);
+        let exact = rows.iter().fold(Big::ZERO, |s, &b| s.plus(model::value(b)));
+        let largest = rows.iter().map(|&b| model::value(b).size()).fold(Big::ZERO, |m, x| if m.at_most(x) { x } else { m });
+        let (t, g) = of_values(&rows);
+        let kept = model::find(&t, g, 7).unwrap().kept();
+        assert!(kept.less(exact).size().shl(80).at_most(largest.times(n as u64)));
+    }
+}
