@@ -99,21 +99,17 @@ fn parity(x: u64) -> u64
     x & 1
 }
 
-// The whole number nearest to x / 2^d, an exact half going to the even number.
+// The whole number nearest to x / 2^d, an exact half going to the even number: half a unit less one and the quotient's parity
+// carry into the quotient just where it is to be rounded up.
 fn nearest(x: u64, d: u64) -> u64
     requires { ⌜ (x < 2 ^ 53) × (d < 54) ⌝ }
     ensures { λ r. ⌜ r ≡ closest x (2 ^ d) ⌝ }
 {
-    let unit = power(d);
-    let whole = x >> d;
-    let twice = last_digits(x, d) * 2;
-    if twice < unit {
-        whole
-    } else if twice == unit {
-        whole + parity(whole)
-    } else {
-        whole + 1
+    if d == 0 {
+        return x;
     }
+    let below_half = power(d - 1) - 1;
+    (x + below_half + parity(x >> d)) >> d
 }
 
 // A size cut at the unit 2^d: its number of units, what is left, and whether the units came to more than the size.

@@ -81,15 +81,16 @@ pub fn find(t: &[u8], g: usize, key: u32) -> Place
     requires { ⌜ (g * 64 ≤ length (now t)) × T (rising (keys (records (now t) g))) ⌝ }
     ensures { λ r. ⌜ r ≡ place key (keys (records (now (t .entry)) g)) ⌝ }
 {
+    // The steps depend on g alone, and each chooses a number, not a way through the code.
     let mut lo = 0;
-    let mut hi = g;
-    while lo < hi {
-        let mid = lo + (hi - lo) / 2;
-        if codec::u32_at(t, mid * 64) < key {
-            lo = mid + 1;
-        } else {
-            hi = mid;
+    let mut n = g;
+    while 0 < n {
+        let half = (n + 1) / 2;
+        let mid = lo + half;
+        if codec::u32_at(t, (mid - 1) * 64) < key {
+            lo = mid;
         }
+        n -= half;
     }
     if lo < g {
         if codec::u32_at(t, lo * 64) == key {

@@ -1,23 +1,28 @@
 -- What a sound record holds at a level, and the range of its residue and carry.
-use Prim.Native.Nat.{ℕ, _+_, _^_, _<_}
-use mathlib.Core.Path.{_≡_, refl}
+use Prim.Native.Nat.{ℕ, _+_, _-_, _^_, _≤_, _<_}
+use mathlib.Core.Path.{_≡_, refl, sym, ap, ap₂, _∙_}
 use mathlib.Core.Bool.{Bool, true, false, cond}
 use lib.Dec.{T, eqb, lit<}
-use lib.IntN.{pos, natAbs}
+use native.Mathlib.Nat.{sub-zero}
+use native.Mathlib.Decide.{decLe}
+use native.Mathlib.Omega.{arith}
+use borrow.Author.Tests.{eq-eqb, ne-eqb, le-leb, lt-leb}
+use lib.IntN.{ℤ, pos, natAbs, _+ℤ_}
 use Rattle.level.specs.declared.Held.{Held}
+use Rattle.level.specs.Level.{below}
 use Rattle.level.specs.Carry.{heldOf, totalOf}
 use Rattle.record.specs.declared.Record.{Record}
 use Rattle.record.specs.Sound.{soundHeld, soundRecord}
-use Rattle.record.specs.Section.{meaning}
-use Rattle.record.proofs.Parts.{sound-record-parts, residue-bound, carry-bound}
+use Rattle.record.specs.Section.{Section, meaning}
+use Rattle.record.proofs.Parts.{Empty, SoundParts, sound-record-parts, residue-bound, carry-bound}
 use Rattle.table.specs.Combine.{levelOf}
-use Rattle.table.specs.Steps.{heldIn}
+use Rattle.table.specs.Steps.{heldIn, bothAt}
 
 -- ---- the range of a level
-abbrev InRange : Held → Type 0
+abbrev pub InRange : Held → Type 0
 InRange h = (h .residue < 2 ^ 50) × (natAbs (h .carry) < 2 ^ 22)
 
-held-range : (n : ℕ) (h : Held) → n < 2 ^ 32 → T (soundHeld n h) → InRange h
+pub held-range : (n : ℕ) (h : Held) → n < 2 ^ 32 → T (soundHeld n h) → InRange h
 held-range n h k t = (residue-bound n h t, carry-bound n h t k)
 
 -- ---- what a record holds at level j
@@ -43,3 +48,48 @@ held-in-range r j h t =
     by false true c x y z = y
     by false false true x y z = z
     by false false false x y z = (lit< tt, lit< tt)
+
+-- ---- two sections of one top: each level of the one stands beside that of the other
+level-high : (s : Section) → levelOf s (s .top) ≡ s .high
+unfolding levelOf
+level-high s = rw (eq-eqb (s .top) (s .top) refl)
+
+level-middle : (s : Section) → 1 ≤ s .top → levelOf s (s .top - 1) ≡ s .middle
+unfolding levelOf
+level-middle s h = rw (ne-eqb (s .top - 1) (s .top) (λ e. omega arith), eq-eqb (s .top - 1 + 1) (s .top) (omega arith))
+
+level-low : (s : Section) → 2 ≤ s .top → levelOf s (s .top - 2) ≡ s .low
+unfolding levelOf
+level-low s h =
+    rw (ne-eqb (s .top - 2) (s .top) (λ e. omega arith), ne-eqb (s .top - 2 + 1) (s .top) (λ e. omega arith), eq-eqb (s .top - 2 + 2) (s .top) (omega arith))
+
+module _ (a b : Record) (e : a .top ≡ b .top) (p : SoundParts a) (q : SoundParts b) where
+  abbrev t : ℕ
+  t = a .top
+
+  abbrev both : ℕ → ℤ
+  both = bothAt (meaning a) (meaning b)
+
+  empty-both : (x y : Held) → Empty x → Empty y → totalOf x +ℤ totalOf y ≡ pos 0
+  empty-both x y f g = rw (f .0, f .1, g .0, g .1)
+
+  pub even-high : below both t 0 ≡ totalOf (a .high) +ℤ totalOf (b .high)
+  even-high =
+      rw (le-leb 0 t (omega arith), sub-zero)
+      (ap₂ _+ℤ_ (level-high (meaning a)) (ap (levelOf (meaning b)) e ∙ level-high (meaning b)))
+
+  pub even-middle : below both t 1 ≡ totalOf (a .middle) +ℤ totalOf (b .middle)
+  even-middle =
+      elim (decLe 1 t) [
+        | yes l ↦ rw (le-leb 1 t l)
+            (ap₂ _+ℤ_ (level-middle (meaning a) l) (ap (λ (n : ℕ). levelOf (meaning b) (n - 1)) e ∙ level-middle (meaning b) (omega arith)))
+        | no l ↦ rw (lt-leb 1 t (omega arith)) (sym (empty-both (a .middle) (b .middle) (p .second (omega arith)) (q .second (omega arith))))
+      ]
+
+  pub even-low : below both t 2 ≡ totalOf (a .low) +ℤ totalOf (b .low)
+  even-low =
+      elim (decLe 2 t) [
+        | yes l ↦ rw (le-leb 2 t l)
+            (ap₂ _+ℤ_ (level-low (meaning a) l) (ap (λ (n : ℕ). levelOf (meaning b) (n - 2)) e ∙ level-low (meaning b) (omega arith)))
+        | no l ↦ rw (lt-leb 2 t (omega arith)) (sym (empty-both (a .low) (b .low) (p .third (omega arith)) (q .third (omega arith))))
+      ]

@@ -68,6 +68,24 @@ fn larger(x: u32, y: u32) -> u32
     if x < y { y } else { x }
 }
 
+// Two records of one section and one top as one: their levels stand side by side.
+fn combined_even(a: Record, b: Record) -> Record
+    requires { ⌜ T (soundRecord a) ⌝ }
+    requires { ⌜ T (soundRecord b) ⌝ }
+    requires { ⌜ (a .top ≡ b .top) × (a .count + b .count < 2 ^ 32) ⌝ }
+    ensures { λ r. ⌜ r ≡ recordOf (combine (meaning a) (meaning b)) ⌝ }
+{
+    Record {
+        key: a.key,
+        count: a.count + b.count,
+        top: a.top,
+        zero: 0,
+        high: level::add_held(a.high, b.high),
+        middle: level::add_held(a.middle, b.middle),
+        low: level::add_held(a.low, b.low),
+    }
+}
+
 // Two records of one section as one.
 pub fn combined(a: Record, b: Record) -> Record
     requires { ⌜ T (soundRecord a) ⌝ }
@@ -75,10 +93,14 @@ pub fn combined(a: Record, b: Record) -> Record
     requires { ⌜ a .count + b .count < 2 ^ 32 ⌝ }
     ensures { λ r. ⌜ r ≡ recordOf (combine (meaning a) (meaning b)) ⌝ }
 {
+    if a.top == b.top {
+        return combined_even(a, b);
+    }
     let t = larger(a.top, b.top);
+    let count = a.count + b.count;
     Record {
         key: a.key,
-        count: a.count + b.count,
+        count,
         top: t,
         zero: 0,
         high: held_below(a, b, t, 0),

@@ -1,57 +1,64 @@
--- `nearest` goes by what remains beside half a unit, as the definition does.
-use mathlib.Core.Path.{sym, ap, _∙_}
-use Prim.Native.Nat.{ℕ, _+_, _/_, _^_}
-use native.Mathlib.Nat.{mod-le, div-le-self}
-use native.Mathlib.Numerals.{add-one}
+-- `nearest` rounds by what one addition carries into the quotient.
+use Prim.Native.Nat.{ℕ, _+_, _-_, _/_, _^_, _≤_, _<_}
+use mathlib.Core.Path.{_≡_, sym, ap, ap₂, _∙_}
 use native.Mathlib.Omega.{arith}
-use Rattle.level.proofs.Near.{closest-less, closest-half, closest-more}
+use lib.Pow.{pow-pos, pow-mono}
+use lib.Ieee.Nearest.{closest}
 use borrow.Author.Needs.{needs}
+use Rattle.level.proofs.Near.{closest-one, closest-carry}
 use Rattle.level.proofs.nearest.Statement.{statement}
 use Rattle.level.proofs.nearest.Tie as tie
+
+-- half a unit
+half-bound : (d : ℕ) → d < 54 → (0 < 2 ^ (d - 1)) × (2 ^ (d - 1) ≤ 2 ^ 53)
+half-bound d h = (pow-pos (d - 1), pow-mono {j = 53} (omega arith))
+
+returns : tie.Need-returns
+returns c =
+    let a = c .before .args in
+    sym (ap (λ (d : ℕ). closest (a .x) (2 ^ d)) (c .if1 .taken) ∙ closest-one (a .x))
+
+sub-power : tie.Need-sub-power
+sub-power c = search needs
 
 power-requires : tie.Need-power-requires
 power-requires c κs = search needs
 
-shr-whole : tie.Need-shr-whole
-shr-whole c = search needs
+sub-below-half : tie.Need-sub-below-half
+sub-below-half c = let s = c .before .before in omega (arith, half-bound (s .args .d) (s .pre .1))
 
-last-digits-requires : tie.Need-last-digits-requires
-last-digits-requires c κs = search needs
+add-result : tie.Need-add-result
+add-result c = let s = c .before .before in omega (arith, half-bound (s .args .d) (s .pre .1))
 
-mul-twice : tie.Need-mul-twice
-mul-twice c = omega (arith, mod-le (c .before .before .args .x) (2 ^ c .before .before .args .d))
+shr-parity : tie.Need-shr-parity
+shr-parity c = search needs
 
 parity-requires : tie.Need-parity-requires
 parity-requires c κs = search needs
 
-add-result : tie.Need-add-result
-add-result c = let a = c .before .before .before .before .before .args in omega (arith, div-le-self (a .x) (2 ^ a .d))
-
 add-result-2 : tie.Need-add-result-2
-add-result-2 c = let a = c .before .before .before .before .args in omega (arith, div-le-self (a .x) (2 ^ a .d))
+add-result-2 c = let s = c .before .before .before in omega (arith, half-bound (s .args .d) (s .pre .1))
 
-returns : tie.Need-returns
-returns c = let a = c .before .before .before .args in sym (closest-less (a .x) (2 ^ a .d) (omega arith))
+shr-result : tie.Need-shr-result
+shr-result c = search needs
 
 returns-2 : tie.Need-returns-2
 returns-2 c =
-    let a = c .before .before .before .before .before .args in
-    ap (λ (b : ℕ). a .x / 2 ^ a .d + b) (c .parity .ensures) ∙ sym (closest-half (a .x) (2 ^ a .d) (omega arith))
-
-returns-3 : tie.Need-returns-3
-returns-3 c = let a = c .before .before .before .before .args in add-one (a .x / 2 ^ a .d) ∙ sym (closest-more (a .x) (2 ^ a .d) (omega arith))
+    let a = c .before .before .before .args in
+    let p = c .before .power in
+    ap₂ (λ (u v : ℕ). (a .x + (u - 1) + v) / 2 ^ a .d) (p .ensures) (c .parity .ensures) ∙ sym (closest-carry (a .x) (a .d) (omega arith))
 
 pub nearest-spec : {M : Type 1} → statement M
 nearest-spec =
     tie.close
     (tie.spec
-    power-requires
-    shr-whole
-    last-digits-requires
-    mul-twice
-    parity-requires
-    add-result
-    add-result-2
     returns
-    returns-2
-    returns-3)
+    sub-power
+    power-requires
+    sub-below-half
+    add-result
+    shr-parity
+    parity-requires
+    add-result-2
+    shr-result
+    returns-2)

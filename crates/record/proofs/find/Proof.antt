@@ -1,6 +1,7 @@
 use Prim.Native.Nat.{ℕ, _+_, _-_, _*_, _/_, _≤_, _<_, zero-le}
 use mathlib.Core.Path.{_≡_, sym, _∙_}
 use mathlib.Core.List.{List}
+use mathlib.Core.Logic.{⊎-elim}
 use native.Mathlib.Omega.{arith}
 use lib.ListN.{length, getD}
 use lib.Dec.{T}
@@ -37,21 +38,24 @@ past-all : (s : List ℕ) (g key : ℕ) → T (rising (keys (records s g))) → 
 past-all s g key up i b h = place-gap key (keys (records s g)) up i b (λ l q. omega (arith, length-keys s g))
 
 abbrev Inv-loop : tie.InvT-loop
-Inv-loop t g key lo₀ hi₀ lo hi = (lo ≤ countBelow key (keys (records t g))) × (countBelow key (keys (records t g)) ≤ hi) × (hi ≤ g)
+Inv-loop t g key lo₀ n₀ lo n = (lo ≤ countBelow key (keys (records t g))) × (countBelow key (keys (records t g)) ≤ lo + n) × (lo + n ≤ g)
 
 abbrev μ-loop : tie.MeasureT-loop
-μ-loop t g key lo₀ hi₀ lo hi = hi - lo
+μ-loop t g key lo₀ n₀ lo n = n
 
 loop-holds : tie.Need-loop-holds Inv-loop μ-loop
 loop-holds c =
     let a = c .before .args in
     (zero-le, omega (arith, below-le (a .key) (keys (records (a .t .now) (a .g))), length-keys (a .t .now) (a .g)), omega arith)
 
-sub-mid : tie.Need-sub-mid Inv-loop μ-loop
-sub-mid c = omega arith
+add-half : tie.Need-add-half Inv-loop μ-loop
+add-half c = omega arith
 
 add-mid : tie.Need-add-mid Inv-loop μ-loop
 add-mid c = omega arith
+
+sub-u32-at : tie.Need-sub-u32-at Inv-loop μ-loop
+sub-u32-at c = omega arith
 
 mul-u32-at : tie.Need-mul-u32-at Inv-loop μ-loop
 mul-u32-at c = omega arith
@@ -59,8 +63,8 @@ mul-u32-at c = omega arith
 u32-at-requires : tie.Need-u32-at-requires Inv-loop μ-loop
 u32-at-requires c κs = omega arith
 
-add-lo : tie.Need-add-lo Inv-loop μ-loop
-add-lo c = omega arith
+sub-n : tie.Need-sub-n Inv-loop μ-loop
+sub-n c = omega arith
 
 loop-less : tie.Need-loop-less Inv-loop μ-loop
 loop-less c = omega arith
@@ -69,20 +73,12 @@ loop-again : tie.Need-loop-again Inv-loop μ-loop
 loop-again c =
     let a = c .before .before .before .before .before in
     let l = c .before .before .before .loop in
-    let m = l .lo + (l .hi - l .lo) / 2 in
+    let m = l .lo + (l .n + 1) / 2 - 1 in
     let u = c .before .u32-at in
-    omega (arith, smaller (a .args .t .now) (a .args .g) (a .args .key) (a .pre) m (u .result) (u .ensures) (omega arith) (c .if1 .taken))
-
-loop-less-2 : tie.Need-loop-less-2 Inv-loop μ-loop
-loop-less-2 c = omega arith
-
-loop-again-2 : tie.Need-loop-again-2 Inv-loop μ-loop
-loop-again-2 c =
-    let a = c .before .before .before .before .before in
-    let l = c .before .before .before .loop in
-    let m = l .lo + (l .hi - l .lo) / 2 in
-    let u = c .before .u32-at in
-    omega (arith, larger (a .args .t .now) (a .args .g) (a .args .key) (a .pre) m (u .result) (u .ensures) (omega arith) (c .if1 .left))
+    ⊎-elim
+    (λ w. omega (arith, smaller (a .args .t .now) (a .args .g) (a .args .key) (a .pre) m (u .result) (u .ensures) (omega arith) (w .0 .taken)))
+    (λ w. omega (arith, larger (a .args .t .now) (a .args .g) (a .args .key) (a .pre) m (u .result) (u .ensures) (omega arith) (w .0 .left)))
+    (c .if1 .came)
 
 mul-u32-at-2 : tie.Need-mul-u32-at-2 Inv-loop μ-loop
 mul-u32-at-2 c = omega arith
@@ -114,15 +110,14 @@ find-spec =
     Inv-loop
     μ-loop
     loop-holds
-    sub-mid
+    add-half
     add-mid
+    sub-u32-at
     mul-u32-at
     u32-at-requires
-    add-lo
+    sub-n
     loop-less
     loop-again
-    loop-less-2
-    loop-again-2
     mul-u32-at-2
     u32-at-requires-2
     returns

@@ -1,4 +1,4 @@
--- `combined` is the definition, field by field.
+-- `combined` is the definition, field by field; records of one top go the short way.
 use Prim.Native.Nat.{_≤_, max}
 use native.Mathlib.Omega.{arith}
 use borrow.Author.Needs.{needs}
@@ -7,11 +7,17 @@ use Rattle.record.proofs.Parts.{sound-record-parts}
 use Rattle.table.proofs.combined.Statement.{statement}
 use Rattle.table.proofs.combined.Tie as tie
 
+combined-even-requires : tie.Need-combined-even-requires
+combined-even-requires c κs = search needs
+
+returns : tie.Need-returns
+returns c = search needs
+
 larger-requires : tie.Need-larger-requires
 larger-requires c κs = search needs
 
-add-t4 : tie.Need-add-t4
-add-t4 c = search needs
+add-count : tie.Need-add-count
+add-count c = search needs
 
 top-within : (c : tie.Start) → max (c .args .a .top) (c .args .b .top) ≤ 52
 top-within c =
@@ -20,25 +26,27 @@ top-within c =
     omega (arith, p .top, q .top)
 
 held-below-requires : tie.Need-held-below-requires
-held-below-requires c κs = let s = c .before .before .before in (omega (arith, top-within s, c .before .before .larger .ensures), (s .pre .0, s .pre .1 .0))
+held-below-requires c κs = let s = c .before .before .before .before .before .before in (omega (arith, top-within s, c .before .before .larger .ensures), (s .pre .0, s .pre .1 .0))
 
 held-below-requires-2 : tie.Need-held-below-requires-2
-held-below-requires-2 c κs = let s = c .before .before .before .before in (omega (arith, top-within s, c .before .before .before .larger .ensures), (s .pre .0, s .pre .1 .0))
+held-below-requires-2 c κs = let s = c .before .before .before .before .before .before .before in (omega (arith, top-within s, c .before .before .before .larger .ensures), (s .pre .0, s .pre .1 .0))
 
 held-below-requires-3 : tie.Need-held-below-requires-3
-held-below-requires-3 c κs = let s = c .before .before .before .before .before in (omega (arith, top-within s, c .before .before .before .before .larger .ensures), (s .pre .0, s .pre .1 .0))
+held-below-requires-3 c κs = let s = c .before .before .before .before .before .before .before .before in (omega (arith, top-within s, c .before .before .before .before .larger .ensures), (s .pre .0, s .pre .1 .0))
 
-returns : tie.Need-returns
+returns-2 : tie.Need-returns-2
 unfolding combine
-returns c = cc
+returns-2 c = cc
 
 pub combined-spec : {M : Type 1} → statement M
 combined-spec =
     tie.close
     (tie.spec
+    combined-even-requires
+    returns
     larger-requires
-    add-t4
+    add-count
     held-below-requires
     held-below-requires-2
     held-below-requires-3
-    returns)
+    returns-2)

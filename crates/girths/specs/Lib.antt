@@ -1,0 +1,2 @@
+-- What the steps of reading promise each other.
+pub mod Input

@@ -1,0 +1,66 @@
+// Reads one patch file from standard input and writes its report to standard output. A read or a write that fails is told on standard error.
+use libc::STDERR_FILENO;
+use libc::STDIN_FILENO;
+use libc::STDOUT_FILENO;
+use report::Printed;
+ghost use Prim.Native.Nat.{_-_, _≤_};
+ghost use lib.ListN.{length};
+ghost use Rattle.girths.specs.Input.{Within};
+
+// How many bytes were read, or that a read failed.
+enum Reading {
+    Bytes(usize),
+    Failed,
+}
+
+// One read after the first done bytes.
+fn read_more(buffer: &mut [u8], done: usize) -> Reading
+    requires { ⌜ done ≤ length (now buffer) ⌝ }
+    ensures { λ r. ⌜ Within (length (now (buffer .entry)) - done) r ⌝ }
+{
+    let got = libc::read(STDIN_FILENO, &mut buffer[done..]);
+    if got < 0 {
+        return Reading::Failed;
+    }
+    Reading::Bytes(io::count(got, &buffer[done..]))
+}
+
+// Reads until the input ends or the buffer is full.
+fn read_all(buffer: &mut [u8]) -> Reading
+    ensures { λ r. ⌜ Within (length (now (buffer .entry))) r ⌝ }
+{
+    let mut done = 0;
+    while done < buffer.len() {
+        let Reading::Bytes(n) = read_more(buffer, done) else {
+            return Reading::Failed;
+        };
+        if n == 0 {
+            return Reading::Bytes(done);
+        }
+        done += n;
+    }
+    Reading::Bytes(done)
+}
+
+fn print_report(file: &[u8]) {
+    let mut text = [0u8; 4096];
+    match report::report(file, &mut text) {
+        Printed::Length(n) => {
+            if !io::write_all(STDOUT_FILENO, &text[..n]) {
+                os::fail(b"girths: standard output");
+            }
+        }
+        Printed::TooShort => {
+            io::write_all(STDERR_FILENO, b"girths: the report is too long\n");
+        }
+    }
+}
+
+// The buffer has one byte more than the longest file, so that a longer one is seen.
+fn main() {
+    let mut buffer = [0u8; 65537];
+    match read_all(&mut buffer) {
+        Reading::Bytes(n) => print_report(&buffer[..n]),
+        Reading::Failed => os::fail(b"girths: standard input"),
+    }
+}

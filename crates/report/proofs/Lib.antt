@@ -1,0 +1,7 @@
+-- Laws that the proofs cite.
+pub mod Digits
+pub mod Signs
+pub mod Texts
+pub mod Lines
+pub mod Tables
+pub mod Whole

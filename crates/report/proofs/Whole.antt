@@ -1,0 +1,62 @@
+-- The whole text by the outcomes of reading and adding, and printing it into a lent buffer.
+use Prim.Native.Nat.{ℕ, _<_, _≤_}
+use mathlib.Core.Path.{_≡_, refl, sym, ap, _∙_}
+use mathlib.Core.Bool.{Bool, true, false, cond}
+use mathlib.Core.List.{List, _++_}
+use native.Mathlib.Omega.{arith}
+use borrow.Author.Tests.{lt-ltb, le-ltb, ltb-false}
+use lib.Dec.{ltb}
+use lib.ListN.{length, take, drop}
+use lib.Seq.{length-take-le}
+use Rattle.codec.specs.Cells.{image}
+use Rattle.codec.proofs.Laws.{AreBytes}
+use Rattle.refusal.specs.Outcome.{accepted, refused}
+use Rattle.patch.specs.File.{readOutcome, keyColumn, valueColumn}
+use Rattle.record.specs.Section.{sections}
+use Rattle.table.specs.Calls.{addSections, addOutcome, addLeaves}
+use Rattle.finish.proofs.Outcomes.{never}
+use Rattle.report.specs.Text.{refusal, lineFeed, headLine, lineText, emptyTable, addText, columnsText, fileText, reportText}
+use Rattle.report.specs.Answer.{printOutcome, printLeaves}
+use Rattle.report.specs.Steps.{Continued}
+use Rattle.report.proofs.Tables.{left-sections}
+
+pub columns-accepted : (ks vs : List ℕ) (g : ℕ) → AreBytes ks → addOutcome emptyTable 0 ks vs 4096 ≡ accepted g
+    → columnsText ks vs ≡ headLine ++ image lineText (sections (addLeaves emptyTable 0 ks vs 4096) g)
+unfolding columnsText addText
+columns-accepted ks vs g a e =
+    ap (λ o. addText o (addSections emptyTable 0 ks vs)) e
+    ∙ ap (λ ts. headLine ++ image lineText ts) (sym (left-sections emptyTable ks vs 4096 g a e))
+
+pub columns-refused : (ks vs : List ℕ) (n : ℕ) → addOutcome emptyTable 0 ks vs 4096 ≡ refused n → columnsText ks vs ≡ refusal n ++ lineFeed
+unfolding columnsText addText
+columns-refused ks vs n e = ap (λ o. addText o (addSections emptyTable 0 ks vs)) e
+
+pub file-accepted : (f : List ℕ) (n : ℕ) → readOutcome 8 f ≡ accepted n → reportText f ≡ columnsText (keyColumn 8 f) (valueColumn 8 f)
+unfolding reportText fileText
+file-accepted f n e = ap (λ o. fileText o f) e
+
+pub file-refused : (f : List ℕ) (n : ℕ) → readOutcome 8 f ≡ refused n → reportText f ≡ refusal n ++ lineFeed
+unfolding reportText fileText
+file-refused f n e = ap (λ o. fileText o f) e
+
+module _ {s s′ w : List ℕ} {k r : ℕ} (p : Continued s 0 w k s′ r) (fits : k ≤ length s′) where
+  -- a text that starts at the front is all that is there
+  pub text-length : length w ≡ r
+  text-length = let h : r ≤ length s′ = omega (arith, p .room) in ap length (sym (p .text)) ∙ length-take-le r s′ h
+
+  module _ (out : List ℕ) where
+    pub does-not-fit : length out < r → (refused 16 ≡ printOutcome out w) × (out ≡ printLeaves out w)
+    does-not-fit h = rw (lt-ltb (length out) (length w) (omega (arith, text-length))) (refl, refl)
+
+    pub does-fit : (d : List ℕ) → r ≤ length out → d ≡ take r s′ ++ drop r out → (accepted r ≡ printOutcome out w) × (d ≡ printLeaves out w)
+    does-fit d h e =
+        rw (le-ltb (length out) (length w) (omega (arith, text-length)))
+        (ap accepted (sym text-length), rw text-length (e ∙ ap (λ (l : List ℕ). l ++ drop r out) (p .text)))
+
+-- an accepted printing fits
+pub printed-fits : (out w : List ℕ) (n : ℕ) → accepted n ≡ printOutcome out w → n ≤ length out
+printed-fits out w n e = by (ltb (length out) (length w)) (ltb-false (length out) (length w)) e
+  where
+    by : (b : Bool) → (b ≡ false → length w ≤ length out) → accepted n ≡ cond b (refused 16) (accepted (length w)) → n ≤ length out
+    by true h e = never (cc)
+    by false h e = let q : n ≡ length w = cc in rw q (h refl)

@@ -1,0 +1,38 @@
+use native.Mathlib.Omega.{arith}
+use Rattle.report.proofs.Whole.{does-fit, does-not-fit}
+use borrow.Author.Needs.{needs}
+use Rattle.report.proofs.report.Statement.{statement}
+use Rattle.report.proofs.report.Tie as tie
+
+slice-aggregate-print-file : tie.Need-slice-aggregate-print-file
+slice-aggregate-print-file c = search needs
+
+print-file-requires : tie.Need-print-file-requires
+print-file-requires c κs = search needs
+
+returns : tie.Need-returns
+returns c = does-not-fit (c .before .before .print-file .ensures) (omega arith) (c .before .before .before .before .before .before .args .out .now) (c .if1 .taken)
+
+slice-aggregate-copy : tie.Need-slice-aggregate-copy
+slice-aggregate-copy c = search needs
+
+copy-requires : tie.Need-copy-requires
+copy-requires c κs = search needs
+
+same-length : tie.Need-same-length
+same-length c = search needs
+
+returns-2 : tie.Need-returns-2
+returns-2 c = does-fit (c .before .before .before .before .before .before .before .print-file .ensures) (omega arith) (c .before .before .before .before .before .before .before .before .before .before .before .args .out .now) (c .before .before .copy .last .0) (c .before .before .before .before .before .if1 .left) (c .before .before .copy .ensures)
+
+pub report-spec : {M : Type 1} → statement M
+report-spec =
+    tie.close
+    (tie.spec
+    slice-aggregate-print-file
+    print-file-requires
+    returns
+    slice-aggregate-copy
+    copy-requires
+    same-length
+    returns-2)

@@ -1,0 +1,75 @@
+-- The text of the report, as a definition of the file's bytes.
+use Prim.Native.Nat.{ℕ}
+use mathlib.Core.List.{List, [], _∷_, _++_}
+use mathlib.Core.Option.{some}
+use lib.IntN.{ℤ}
+use lib.ListN.{replicate}
+use lib.Ieee.{Float, binary64, toBits}
+use Rattle.codec.specs.Cells.{image}
+use Rattle.refusal.specs.Outcome.{Outcome, accepted, refused}
+use Rattle.patch.specs.File.{readOutcome, keyColumn, valueColumn}
+use Rattle.record.specs.Section.{Section}
+use Rattle.finish.specs.Finish.{sumOf, figureOf}
+use Rattle.table.specs.Calls.{addOutcome, addSections}
+use Rattle.report.specs.Numerals.{decimal, integer, hexadecimal}
+
+abbrev pub space : List ℕ
+space = 0x20 ∷ []
+
+abbrev pub lineFeed : List ℕ
+lineFeed = 0x0A ∷ []
+
+-- "refused "
+abbrev pub refusedWord : List ℕ
+refusedWord = 0x72 ∷ 0x65 ∷ 0x66 ∷ 0x75 ∷ 0x73 ∷ 0x65 ∷ 0x64 ∷ 0x20 ∷ []
+
+-- "section rows bits hundredths" and a line feed
+unfoldable pub headLine : List ℕ
+headLine =
+    0x73 ∷ 0x65 ∷ 0x63 ∷ 0x74 ∷ 0x69 ∷ 0x6F ∷ 0x6E ∷ 0x20
+    ∷ 0x72 ∷ 0x6F ∷ 0x77 ∷ 0x73 ∷ 0x20
+    ∷ 0x62 ∷ 0x69 ∷ 0x74 ∷ 0x73 ∷ 0x20
+    ∷ 0x68 ∷ 0x75 ∷ 0x6E ∷ 0x64 ∷ 0x72 ∷ 0x65 ∷ 0x64 ∷ 0x74 ∷ 0x68 ∷ 0x73 ∷ 0x0A ∷ []
+
+-- "refused" and a refusal's number
+unfoldable pub refusal : ℕ → List ℕ
+refusal n = refusedWord ++ decimal n
+
+-- the mill figure, or why there is none
+unfoldable pub figureField : Outcome ℤ → List ℕ
+figureField (accepted z) = integer z
+figureField (refused n) = refusal n
+
+-- the sum's 64 bits and the mill figure; a sum refused takes the place of both
+unfoldable pub lastFields : Outcome Float → Outcome ℤ → List ℕ
+lastFields (accepted x) f = hexadecimal (toBits binary64 x) ++ space ++ figureField f
+lastFields (refused n) f = refusal n
+
+-- a line of section, row count and what follows them
+unfoldable pub lineWith : ℕ → ℕ → List ℕ → List ℕ
+lineWith key count last = decimal key ++ space ++ decimal count ++ space ++ last ++ lineFeed
+
+-- a section's line
+unfoldable pub lineText : Section → List ℕ
+lineText s = lineWith (s .key) (s .count) (lastFields (sumOf (some s)) (figureOf (some s)))
+
+-- an empty table of 64 groups, which is as long as the work buffer
+abbrev pub emptyTable : List ℕ
+emptyTable = replicate 4096 0
+
+-- what the add of two columns prints: only its refusal, or the head line and a line for each section, the keys rising
+unfoldable pub addText : Outcome ℕ → List Section → List ℕ
+addText (accepted g) ts = headLine ++ image lineText ts
+addText (refused n) ts = refusal n ++ lineFeed
+
+unfoldable pub columnsText : List ℕ → List ℕ → List ℕ
+columnsText ks vs = addText (addOutcome emptyTable 0 ks vs 4096) (addSections emptyTable 0 ks vs)
+
+-- what a file prints: only its refusal, or what the add of its columns prints
+unfoldable pub fileText : Outcome ℕ → List ℕ → List ℕ
+fileText (accepted n) f = columnsText (keyColumn 8 f) (valueColumn 8 f)
+fileText (refused n) f = refusal n ++ lineFeed
+
+-- the report of a file
+unfoldable pub reportText : List ℕ → List ℕ
+reportText f = fileText (readOutcome 8 f) f

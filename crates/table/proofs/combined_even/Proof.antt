@@ -1,0 +1,61 @@
+-- `combined_even`: at one top the three levels are added in their places.
+use Prim.Native.Nat.{ℕ, _+_, _^_, _<_, max}
+use mathlib.Core.Path.{_≡_, sym, ap, _∙_}
+use native.Mathlib.Omega.{arith}
+use borrow.Author.Needs.{needs}
+use Rattle.level.specs.Level.{below}
+use Rattle.level.specs.Carry.{heldOf}
+use Rattle.record.specs.Section.{meaning}
+use Rattle.record.proofs.Parts.{SoundParts, sound-record-parts}
+use Rattle.table.specs.Combine.{combine}
+use Rattle.table.specs.Steps.{bothAt}
+use Rattle.table.proofs.Totals.{held-range, even-high, even-middle, even-low}
+use Rattle.table.proofs.combined_even.Statement.{statement}
+use Rattle.table.proofs.combined_even.Tie as tie
+
+few : (c : tie.Start) → (c .args .a .count < 2 ^ 32) × (c .args .b .count < 2 ^ 32)
+few c = search needs
+
+parts : (c : tie.Start) → SoundParts (c .args .a) × SoundParts (c .args .b)
+parts c = (sound-record-parts (c .args .a) (c .pre .0), sound-record-parts (c .args .b) (c .pre .1 .0))
+
+add-t3 : tie.Need-add-t3
+add-t3 c = search needs
+
+add-held-requires : tie.Need-add-held-requires
+add-held-requires c κs =
+    let s = c .before .before in
+    let x = held-range (s .args .a .count) (s .args .a .high) (few s .0) (parts s .0 .high) in
+    let y = held-range (s .args .b .count) (s .args .b .high) (few s .1) (parts s .1 .high) in
+    (x .0, y .0, omega arith, omega arith)
+
+add-held-requires-2 : tie.Need-add-held-requires-2
+add-held-requires-2 c κs =
+    let s = c .before .before .before in
+    let x = held-range (s .args .a .count) (s .args .a .middle) (few s .0) (parts s .0 .middle) in
+    let y = held-range (s .args .b .count) (s .args .b .middle) (few s .1) (parts s .1 .middle) in
+    (x .0, y .0, omega arith, omega arith)
+
+add-held-requires-3 : tie.Need-add-held-requires-3
+add-held-requires-3 c κs =
+    let s = c .before .before .before .before in
+    let x = held-range (s .args .a .count) (s .args .a .low) (few s .0) (parts s .0 .low) in
+    let y = held-range (s .args .b .count) (s .args .b .low) (few s .1) (parts s .1 .low) in
+    (x .0, y .0, omega arith, omega arith)
+
+returns : tie.Need-returns
+unfolding combine
+returns c =
+    let s = c .before .before .before .before .before in
+    let a = s .args .a in
+    let b = s .args .b in
+    let e = s .pre .1 .1 .0 in
+    let t : a .top ≡ max (a .top) (b .top) = omega arith in
+    let h = c .before .before .add-held .ensures ∙ ap heldOf (sym (even-high a b e (parts s .0) (parts s .1)) ∙ ap (λ (n : ℕ). below (bothAt (meaning a) (meaning b)) n 0) t) in
+    let m = c .before .add-held2 .ensures ∙ ap heldOf (sym (even-middle a b e (parts s .0) (parts s .1)) ∙ ap (λ (n : ℕ). below (bothAt (meaning a) (meaning b)) n 1) t) in
+    let l = c .add-held3 .ensures ∙ ap heldOf (sym (even-low a b e (parts s .0) (parts s .1)) ∙ ap (λ (n : ℕ). below (bothAt (meaning a) (meaning b)) n 2) t) in
+    λ i. record { key = a .key; count = a .count + b .count; top = t i; zero = 0; high = h i; middle = m i; low = l i }
+
+pub combined-even-spec : {M : Type 1} → statement M
+combined-even-spec =
+    tie.close (tie.spec add-t3 add-held-requires add-held-requires-2 add-held-requires-3 returns)
