@@ -128,9 +128,21 @@ fn add_random(t: &mut [u8], g: u64, n: usize, x: u64, kind: u64) -> i64
     let mut work = [7u8; 640];
     let mut short = [7u8; 256];
     match (x >> 20) & 15 {
-        0 => exports::girth_add(t, std::num::wrapping_add_u64(g, 1), part(&keys, n * 4), part(&values, n * 8), &mut work),
+        0 => exports::girth_add(
+            t,
+            std::num::wrapping_add_u64(g, 1),
+            part(&keys, n * 4),
+            part(&values, n * 8),
+            &mut work,
+        ),
         1 => exports::girth_add(t, g, part(&keys, n * 4), part(&values, n * 8), &mut short),
-        2 => exports::girth_add(t, g, part(&keys, n * 4), part(&values, n * 8 + 4), &mut work),
+        2 => exports::girth_add(
+            t,
+            g,
+            part(&keys, n * 4),
+            part(&values, n * 8 + 4),
+            &mut work,
+        ),
         _ => exports::girth_add(t, g, part(&keys, n * 4), part(&values, n * 8), &mut work),
     }
 }
