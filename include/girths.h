@@ -33,6 +33,10 @@ int64_t girth_figure(const uint8_t *table, size_t table_len, uint64_t g, uint32_
 /* The finished line of a section: 0, or -7, -13, -14 or -15. */
 int64_t girth_line(const uint8_t *table, size_t table_len, uint64_t g, uint32_t key, uint64_t *count, uint64_t *bits, int64_t *figure);
 
+/* The report of a patch file, at the front of out: the length of its text, at most 4,096 bytes, or -16 where out is shorter than the text and
+ * untouched. */
+int64_t girth_report(const uint8_t *file, size_t file_len, uint8_t *out, size_t out_len);
+
 #ifdef __cplusplus
 }
 #endif

@@ -173,7 +173,8 @@ fn finishing(sections: u64) {
     show(&format!("finish in a table of {sections}"), "ns/section", &race(n, if n < 100 { 100 } else { 1 }, &mut candidates));
 }
 
-fn reading() {
+/// A patch file of the most rows, in 64 sections.
+fn full_file() -> Vec<u8> {
     let (k, v) = rows(64, 1);
     let mut file = [k, v].concat();
     let l = file.len() as u32 + 16;
@@ -181,10 +182,35 @@ fn reading() {
         file.extend(x.to_le_bytes());
     }
     file.extend([0x4C, 0x41, 0x53, 0x54]);
+    file
+}
+
+fn reading() {
+    let file = full_file();
+    let mut out = vec![0; 4096];
     let mut candidates: Vec<(&'static str, Box<dyn FnMut()>)> = vec![("read", Box::new(|| {
         black_box(girths::read(black_box(&file)).unwrap());
+    })), ("report", Box::new(|| {
+        black_box(girths::report(black_box(&file), &mut out).unwrap());
     }))];
-    show("read a full file", "ns/file", &race(1, 1000, &mut candidates));
+    show("a full file, 64 sections", "ns/file", &race(1, 20, &mut candidates));
+}
+
+/// The program on a full file, as wall time from start to end, beside `cat` on the same file.
+fn program() {
+    let root = concat!(env!("CARGO_MANIFEST_DIR"), "/..");
+    let path = format!("{root}/target/bench.patch");
+    std::fs::write(&path, full_file()).unwrap();
+    let run = |program: String| {
+        let file = std::fs::File::open(&path).unwrap();
+        let done = std::process::Command::new(program).stdin(file).stdout(std::process::Stdio::null()).status().unwrap();
+        assert!(done.success());
+    };
+    let mut candidates: Vec<(&'static str, Box<dyn FnMut()>)> = vec![
+        ("girths", Box::new(|| run(format!("{root}/target/bin/girths")))),
+        ("cat", Box::new(|| run("cat".to_string()))),
+    ];
+    show("program on a full file", "ns/run", &race(1, 1, &mut candidates));
 }
 
 fn main() {
@@ -199,4 +225,5 @@ fn main() {
     finishing(64);
     finishing(1024);
     reading();
+    program();
 }

@@ -14,12 +14,15 @@ ghost use Rattle.patch.specs.File.{fieldAt, keyDistance, valueDistance, readOut
 ghost use Rattle.table.specs.Calls.{addOutcome, addLeaves, cleared, mergeOutcome, mergeLeaves};
 ghost use Rattle.table.specs.Answer.{tableAnswer};
 ghost use Rattle.finish.specs.Finish.{sumOutcome, figureOutcome, lineOutcome};
+ghost use Rattle.report.specs.Text.{reportText};
+ghost use Rattle.report.specs.Answer.{printOutcome, printLeaves};
 ghost use Rattle.exports.specs.Calls.{returned, count, none, writes, startOf, bitsOf, columnAt};
 use finish::FigureAnswer;
 use finish::LineAnswer;
 use finish::SectionSum;
 use patch::Reading;
 use refusal::Refusal;
+use report::Printed;
 use table::TableAnswer;
 
 // Minus a refusal's number.
@@ -155,5 +158,17 @@ pub extern "C" fn girth_line(
             0
         }
         LineAnswer::Refused(r) => minus(r),
+    }
+}
+
+// The report of a patch file, at the front of out: the length of its text, or -16 where out is shorter.
+#[no_mangle]
+pub extern "C" fn girth_report(file: &[u8], out: &mut [u8]) -> i64
+    ensures answer { λ r. ⌜ r ≡ returned count (printOutcome (now (out .entry)) (reportText (now (file .entry)))) ⌝ }
+    ensures bytes { λ _. ⌜ now (out .exit) ≡ printLeaves (now (out .entry)) (reportText (now (file .entry))) ⌝ }
+{
+    match report::report(file, out) {
+        Printed::Length(n) => n as i64,
+        Printed::TooShort => -16,
     }
 }

@@ -12,6 +12,7 @@ extern "C" {
     fn girth_line(
         table: *const u8, table_len: usize, g: u64, key: u32, count: *mut u64, bits: *mut u64, figure: *mut i64,
     ) -> i64;
+    fn girth_report(file: *const u8, file_len: usize, out: *mut u8, out_len: usize) -> i64;
 }
 
 /// A refusal's number, 1 to 15.
@@ -83,6 +84,11 @@ pub fn line(table: &[u8], g: u64, key: u32) -> Result<Line, Refusal> {
         girth_line(table.as_ptr(), table.len(), g, key, &mut l.count, &mut l.bits, &mut l.figure)
     });
     settled(r, l, l == Line { count: 0, bits: 0, figure: 0 })
+}
+
+/// Writes the report of a patch file to the front of a buffer, and gives its length; the error is 16 where the buffer is too short.
+pub fn report(file: &[u8], out: &mut [u8]) -> Result<usize, u32> {
+    answer(unsafe { girth_report(file.as_ptr(), file.len(), out.as_mut_ptr(), out.len()) }).map(|n| n as usize)
 }
 
 /// The value written out, after a look that a refused call wrote zeros.

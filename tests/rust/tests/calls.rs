@@ -395,3 +395,84 @@ fn distance() {
         assert!(kept.less(exact).size().shl(80).at_most(largest.times(n as u64)));
     }
 }
+
+fn report_both(file: &[u8], room: usize) -> String {
+    let expected = model::report(file);
+    let before: Vec<u8> = (0..room).map(|i| i as u8).collect();
+    let mut out = before.clone();
+    match girths::report(file, &mut out) {
+        Ok(n) => {
+            assert_eq!(String::from_utf8_lossy(&out[..n]), expected);
+            assert_eq!(out[n..], before[n..]);
+        }
+        Err(e) => assert!(e == 16 && room < expected.len() && out == before),
+    }
+    expected
+}
+
+#[test]
+fn reports() {
+    let mut r = Random(6);
+    for _ in 0..1500 {
+        let n = r.below(90) as usize;
+        let span = [1, 5, 64, 70, 1 << 32][r.below(5) as usize];
+        let key = |r: &mut Random| if r.chance(9) { u32::MAX } else { r.below(span) as u32 };
+        let rows: Vec<(u32, u64)> = r.rows(n).into_iter().map(|b| (key(&mut r), b)).collect();
+        let (k, mut v) = columns(&rows);
+        if r.chance(10) && n > 0 {
+            v[8 * n - 2..].copy_from_slice(&[0xF0, 0xFF]);
+        }
+        let (a, first) = (r.below(9) as usize, r.chance(2));
+        let mut f = file(&r.bytes(a), &k, &[], &v, &[], first);
+        if r.chance(10) {
+            let at = f.len() - 1 - r.below(16) as usize;
+            f[at] ^= 1;
+        }
+        let room = if r.chance(2) { 4096 } else { r.below(3000) as usize };
+        report_both(&f, room);
+    }
+}
+
+/// Each file of samples/: its name tells the refusal, and its report stands beside it.
+#[test]
+fn samples() {
+    let folder = concat!(env!("CARGO_MANIFEST_DIR"), "/../../samples");
+    let mut files = 0;
+    for entry in std::fs::read_dir(folder).unwrap() {
+        let path = entry.unwrap().path();
+        if path.extension().is_none_or(|e| e != "patch") {
+            continue;
+        }
+        files += 1;
+        let data = std::fs::read(&path).unwrap();
+        let expected = std::fs::read_to_string(path.with_extension("report")).unwrap();
+        assert_eq!(report_both(&data, 4096), expected, "{}", path.display());
+        let name = path.file_name().unwrap().to_str().unwrap();
+        match name.strip_prefix("refused-").map(|rest| rest.split('-').next().unwrap().to_string()) {
+            Some(number) => assert!(expected.contains(&format!("refused {number}\n"))),
+            None => assert!(!expected.contains("refused")),
+        }
+    }
+    assert!(files >= 16);
+}
+
+/// A file that tools/mkpatch makes is accepted, and has the rows of its text.
+#[test]
+fn made_files() {
+    use std::io::Write;
+    use std::process::{Command, Stdio};
+    let tool = concat!(env!("CARGO_MANIFEST_DIR"), "/../../tools/mkpatch");
+    let make = |text: &str| {
+        let mut child = Command::new("python3").arg(tool).stdin(Stdio::piped()).stdout(Stdio::piped()).stderr(Stdio::null()).spawn().unwrap();
+        child.stdin.take().unwrap().write_all(text.as_bytes()).unwrap();
+        let out = child.wait_with_output().unwrap();
+        (out.status.success(), out.stdout)
+    };
+    let (good, data) = make("# two sections\n1 1.0\n2 0.125\n\n1 0.5\n");
+    assert!(good && read_both(&data) == Ok(3));
+    assert_eq!(report_both(&data, 4096), "section rows bits hundredths\n1 2 3FF8000000000000 150\n2 1 3FC0000000000000 13\n");
+    let most: String = (0..5460).map(|i| format!("{} {}.25\n", i % 64, i)).collect();
+    let (good, data) = make(&most);
+    assert!(good && read_both(&data) == Ok(5460));
+    assert!(make("").0 && !make(&(most + "1 1\n")).0 && !make("1 inf\n").0 && !make("4294967296 1\n").0 && !make("x\n").0);
+}

@@ -1,0 +1,61 @@
+use mathlib.Core.Path.{sym, ap, _∙_}
+use native.Mathlib.Omega.{arith}
+use mir.Syntax.{w64}
+use mir.ValLaws.{toZ-pos}
+use Rattle.report.specs.Text.{reportText}
+use Rattle.report.specs.Answer.{printedAnswer}
+use Rattle.report.proofs.Whole.{printed-fits}
+use Rattle.exports.specs.Calls.{returned, count}
+use borrow.Author.Needs.{needs}
+use Rattle.exports.proofs.girth_report.Statement.{statement}
+use Rattle.exports.proofs.girth_report.Tie as tie
+
+report-requires : tie.Need-report-requires
+report-requires c κs = search needs
+
+enum-known-n : tie.Need-enum-known-n
+enum-known-n c = search needs
+
+-- a text that fits a slice is shorter than 2^63
+cast-result : tie.Need-cast-result
+cast-result c =
+    let s = c .before .before .before .before .before .before .before .before .before .args in
+    let n = c .before .n .given in
+    let o = ap printedAnswer (sym (n .1)) ∙ c .before .before .before .before .before .report .ensures .0 in
+    let most = printed-fits (s .out .now) (reportText (s .file .now)) (n .0 .0) o in
+    search needs
+
+enum-told : tie.Need-enum-told
+enum-told c = search needs
+
+same-length : tie.Need-same-length
+same-length c = search needs
+
+returns : tie.Need-returns
+returns c =
+    let s = c .before .before .before .before .before .before .before .before .before .args in
+    let n = c .before .n .given in
+    let o = ap printedAnswer (sym (n .1)) ∙ c .before .before .before .before .before .report .ensures .0 in
+    let most = printed-fits (s .out .now) (reportText (s .file .now)) (n .0 .0) o in
+    (toZ-pos w64 (n .0 .0) (omega arith) ∙ ap (returned count) o, c .before .before .before .before .before .report .ensures .1)
+
+same-length-2 : tie.Need-same-length-2
+same-length-2 c = search needs
+
+returns-2 : tie.Need-returns-2
+returns-2 c =
+    let o = ap printedAnswer (sym (c .enum-told .given .1)) ∙ c .before .before .before .before .report .ensures .0 in
+    (ap (returned count) o, c .before .before .before .before .report .ensures .1)
+
+pub girth-report-spec : {M : Type 1} → statement M
+girth-report-spec =
+    tie.close
+    (tie.spec
+    report-requires
+    enum-known-n
+    cast-result
+    enum-told
+    same-length
+    returns
+    same-length-2
+    returns-2)
