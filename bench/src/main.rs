@@ -77,6 +77,13 @@ fn adding(name: &str, sections: u64, run: usize) {
     let (k, v) = rows(sections, run);
     let mut table = vec![0u8; 65536];
     let mut work = vec![0u8; 65536];
+    // the two level methods agree on the first record
+    girths::add(&mut table, 0, &k, &v, &mut work).unwrap();
+    let mut levels = level::Levels::default();
+    levels.add(&k, &v);
+    let (count, top, carry, residue) = levels.first();
+    assert_eq!(table[4..12], [count.to_le_bytes(), top.to_le_bytes()].concat());
+    assert_eq!(table[16..32], [(residue as u64).to_le_bytes(), (carry as i64).to_le_bytes()].concat());
     let (mut held, mut held_work, mut held_g) = (vec![0u8; 65536], vec![0u8; 65536], 0);
     let mut candidates: Vec<(&'static str, Box<dyn FnMut()>)> = vec![
         ("add", Box::new(|| {
