@@ -77,6 +77,13 @@ fn adding(name: &str, sections: u64, run: usize) {
     let (k, v) = rows(sections, run);
     let mut table = vec![0u8; 65536];
     let mut work = vec![0u8; 65536];
+    // the two level methods agree on the first record
+    girths::add(&mut table, 0, &k, &v, &mut work).unwrap();
+    let mut levels = level::Levels::default();
+    levels.add(&k, &v);
+    let (count, top, carry, residue) = levels.first();
+    assert_eq!(table[4..12], [count.to_le_bytes(), top.to_le_bytes()].concat());
+    assert_eq!(table[16..32], [(residue as u64).to_le_bytes(), (carry as i64).to_le_bytes()].concat());
     let (mut held, mut held_work, mut held_g) = (vec![0u8; 65536], vec![0u8; 65536], 0);
     let mut candidates: Vec<(&'static str, Box<dyn FnMut()>)> = vec![
         ("add", Box::new(|| {
@@ -213,17 +220,29 @@ fn program() {
     show("program on a full file", "ns/run", &race(1, 1, &mut candidates));
 }
 
+/// All cases, or those of the part that is named: add1, add64, runs64, add1024, merge, finish, file, program.
 fn main() {
+    let part = std::env::args().nth(1);
+    let chosen = |name: &str| part.as_deref().is_none_or(|p| p == name);
     println!("| case | what | median | quarters | first / this |");
     println!("|---|---|---|---|---|");
-    adding("1 section", 1, 1);
-    adding("64 sections", 64, 1);
-    adding("64 sections in runs", 64, 40);
-    adding("1,024 sections", 1024, 1);
-    merging();
-    finishing(1);
-    finishing(64);
-    finishing(1024);
-    reading();
-    program();
+    for (name, title, sections, run) in
+        [("add1", "1 section", 1, 1), ("add64", "64 sections", 64, 1), ("runs64", "64 sections in runs", 64, 40), ("add1024", "1,024 sections", 1024, 1)]
+    {
+        if chosen(name) {
+            adding(title, sections, run);
+        }
+    }
+    if chosen("merge") {
+        merging();
+    }
+    if chosen("finish") {
+        [1, 64, 1024].into_iter().for_each(finishing);
+    }
+    if chosen("file") {
+        reading();
+    }
+    if chosen("program") {
+        program();
+    }
 }
