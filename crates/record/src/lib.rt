@@ -1,13 +1,11 @@
 // The 64-byte record of a section: read, written, tested and looked up in a lent buffer.
 ghost use mathlib.Core.Path.{_≡_};
 ghost use mathlib.Core.Bool.{_&&_, _||_};
-ghost use Prim.Native.Nat.{_+_, _*_, _^_, _≤_, _<_};
+ghost use Prim.Native.Nat.{_+_, _*_, _^_, _≤_};
 ghost use mathlib.Core.List.{_∷_, _++_};
 ghost use lib.ListN.{length, take, drop};
 ghost use lib.Seq.{sets};
 ghost use lib.Dec.{T, leb};
-ghost use lib.IntN.{natAbs};
-ghost use Rattle.level.specs.Carry.{totalOf};
 ghost use Rattle.record.specs.Layout.{heldAt, recordAt, encodeHeld, encode, decode, records};
 ghost use Rattle.record.specs.Keys.{keys, rising, place};
 ghost use Rattle.record.specs.Sound.{soundHeld, isZero, soundRecord, soundRecords, sound};
@@ -138,38 +136,16 @@ fn at_most(k: u64, s: u64, count: u32) -> bool
     s <= ((count % 2048) as u64) * 549755813888
 }
 
-// The size of a total, high * 2^50 + low.
-struct Size {
-    high: u64,
-    low: u64,
-}
-
-// Either sign is a choice of numbers, not a way through the code: the signs of totals are not predictable.
-fn size_of(x: Held) -> Size
-    requires { ⌜ x .residue < 2 ^ 50 ⌝ }
-    ensures { λ r. ⌜ (r .high * 2 ^ 50 + r .low ≡ natAbs (totalOf x)) × (r .low ≤ 2 ^ 50) ⌝ }
-{
-    let s = x.residue;
-    let c = x.carry;
-    if c < 0 {
-        Size {
-            high: !c as u64,
-            low: 1125899906842624 - s,
-        }
-    } else {
-        Size {
-            high: c as u64,
-            low: s,
-        }
-    }
-}
-
 fn held_sound(x: Held, count: u32) -> bool
     ensures { λ r. ⌜ r ≡ soundHeld count x ⌝ }
 {
-    if x.residue < 1125899906842624 {
-        let size = size_of(x);
-        return at_most(size.high, size.low, count);
+    let s = x.residue;
+    let c = x.carry;
+    if s < 1125899906842624 {
+        if c < 0 {
+            return at_most(!c as u64, 1125899906842624 - s, count);
+        }
+        return at_most(c as u64, s, count);
     }
     false
 }

@@ -1,14 +1,27 @@
--- `held_sound` compares the size of the total.
 use Prim.Native.Nat.{_^_}
 use mathlib.Core.Path.{_∙_}
-use borrow.Author.Needs.{needs}
+use mathlib.Core.Bool.{false}
+use native.Mathlib.Omega.{arith}
 use borrow.Author.Tests.{lt-ltb, le-ltb}
+use mir.Syntax.{w64}
+use mir.Val.{ofZ, SFits}
+use Rattle.codec.proofs.Laws.{turned, low-half, sign-known}
 use Rattle.record.specs.Sound.{soundHeld}
+use Rattle.record.proofs.Sound.{size-negative, size-positive}
+use borrow.Author.Needs.{needs}
 use Rattle.record.proofs.held_sound.Statement.{statement}
 use Rattle.record.proofs.held_sound.Tie as tie
 
-size-of-requires : tie.Need-size-of-requires
-size-of-requires c κs = search needs
+in-range : (c : tie.Start) → SFits w64 (c .args .x .carry)
+in-range c = search needs
+
+cast-at-most : tie.Need-cast-at-most
+cast-at-most c =
+    let l = turned (c .before .before .before .args .x .carry) (in-range (c .before .before .before)) (c .if2 .taken) in
+    (l .0, omega (arith, l .1))
+
+sub-at-most : tie.Need-sub-at-most
+sub-at-most c = search needs
 
 at-most-requires : tie.Need-at-most-requires
 at-most-requires c κs = search needs
@@ -16,12 +29,42 @@ at-most-requires c κs = search needs
 returns : tie.Need-returns
 unfolding soundHeld
 returns c =
-    let x = c .before .before .before .before .args .x in
-    c .at-most .ensures ∙ rw (lt-ltb (x .residue) (2 ^ 50) (c .before .before .if1 .taken), c .before .size-of .ensures .0)
+    let a = c .before .before .before .before in
+    let x = a .args .x in
+    let e = size-negative (x .carry) (x .residue) (in-range a) (c .before .before .if1 .taken) (c .before .if2 .taken) in
+    c .at-most .ensures ∙ rw (lt-ltb (x .residue) (2 ^ 50) (c .before .before .if1 .taken), e)
+
+cast-at-most-2 : tie.Need-cast-at-most-2
+cast-at-most-2 c =
+    let x = c .before .before .before .args .x in
+    let h = sign-known (x .carry) (in-range (c .before .before .before)) false (c .if2 .left) in
+    let l = low-half (ofZ w64 (x .carry)) h in
+    (l .0, omega (arith, l .1))
+
+at-most-requires-2 : tie.Need-at-most-requires-2
+at-most-requires-2 c κs = search needs
 
 returns-2 : tie.Need-returns-2
 unfolding soundHeld
-returns-2 c = rw (le-ltb (c .before .before .args .x .residue) (2 ^ 50) (c .if1 .left))
+returns-2 c =
+    let a = c .before .before .before .before in
+    let x = a .args .x in
+    let e = size-positive (x .carry) (x .residue) (in-range a) (c .before .if2 .left) in
+    c .at-most2 .ensures ∙ rw (lt-ltb (x .residue) (2 ^ 50) (c .before .before .if1 .taken), e)
+
+returns-3 : tie.Need-returns-3
+unfolding soundHeld
+returns-3 c = rw (le-ltb (c .before .before .args .x .residue) (2 ^ 50) (c .if1 .left))
 
 pub held-sound-spec : {M : Type 1} → statement M
-held-sound-spec = tie.close (tie.spec size-of-requires at-most-requires returns returns-2)
+held-sound-spec =
+    tie.close
+    (tie.spec
+    cast-at-most
+    sub-at-most
+    at-most-requires
+    returns
+    cast-at-most-2
+    at-most-requires-2
+    returns-2
+    returns-3)
