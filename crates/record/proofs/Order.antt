@@ -14,7 +14,7 @@ use lib.ListN.{length, getD, take, drop}
 use Rattle.record.specs.Keys.{rising, countBelow, has, place}
 use Rattle.record.specs.declared.Place.the-variants.{At, Gap}
 
--- the first key is countBelow all the others
+-- the first key is below all the others
 head-lt : (x : ℕ) (xs : List ℕ) → T (rising (x ∷ xs)) → (j : ℕ) → j < length xs → x < getD xs j 0
 unfolding rising
 head-lt x [] h j l = absurd (omega arith)
@@ -48,7 +48,7 @@ below-le k (x ∷ xs) = by (ltb x k) (below-le k xs)
     by false h = omega arith
 
 module _ (k : ℕ) where
-  -- a key countBelow k is among the first ones
+  -- a key below k is among the first ones
   pub below-lt : (ks : List ℕ) → T (rising ks) → (i : ℕ) → i < length ks → getD ks i 0 < k → i < countBelow k ks
   unfolding countBelow
   below-lt [] h i l m = absurd (omega arith)

@@ -19,7 +19,7 @@ soundHeld n t = ltb (t .residue) (2 ^ 50) && leb (natAbs (totalOf t)) (n * 2 ^ 3
 unfoldable pub isZero : Held → Bool
 isZero t = eqb (t .residue) 0 && eqb (natAbs (t .carry)) 0
 
--- one record by itself; levels countBelow 0 hold 0
+-- one record by itself; levels below 0 hold 0
 unfoldable pub soundRecord : Record → Bool
 soundRecord r =
     leb 1 (r .count) && leb (r .top) 52 && eqb (r .zero) 0
