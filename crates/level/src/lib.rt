@@ -6,7 +6,7 @@ ghost use lib.Ieee.Nearest.{closest};
 ghost use Rattle.level.specs.Double.{field, fraction, finite, significand, negative, signed};
 ghost use Rattle.level.specs.Level.{top};
 ghost use Rattle.level.specs.Cut.{shiftOf, restOf, overOf, turn};
-ghost use Rattle.level.specs.Carry.{heldOf, totalOf};
+ghost use Rattle.level.specs.Carry.{carryOf, residueOf, heldOf, totalOf};
 ghost use Rattle.level.specs.Contributions.{contributionsOf};
 
 // The exponent field of a double's bits.
@@ -213,12 +213,26 @@ pub struct Held {
     pub carry: i64,
 }
 
+// The low 50 bits.
+fn residue_of(total: i64) -> u64
+    ensures { λ r. ⌜ r ≡ residueOf total ⌝ }
+{
+    (total & 0x3_FFFF_FFFF_FFFF) as u64
+}
+
+// A shift that copies the sign rounds down.
+fn carry_of(total: i64) -> i64
+    ensures { λ r. ⌜ r ≡ carryOf total ⌝ }
+{
+    total >> 50
+}
+
 pub fn hold(total: i64) -> Held
     ensures { λ r. ⌜ r ≡ heldOf total ⌝ }
 {
     Held {
-        residue: (total & 0x3_FFFF_FFFF_FFFF) as u64,
-        carry: total >> 50,
+        residue: residue_of(total),
+        carry: carry_of(total),
     }
 }
 
