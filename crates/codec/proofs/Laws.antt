@@ -19,7 +19,7 @@ use Rattle.codec.specs.Bytes.{number, bytes, numberAt}
 pub length-bytes : (w x : ℕ) → length (bytes w x) ≡ w
 unfolding bytes
 length-bytes zero x = refl
-length-bytes (suc w) x = ap suc (length-bytes w (x / 256))
+length-bytes (suc w) x = ap suc (length-bytes w _)
 
 -- reading back what was written
 pub number-bytes : (w x : ℕ) → x < 256 ^ w → number (bytes w x) ≡ x
