@@ -1,5 +1,5 @@
 use Prim.Native.Nat.{_^_}
-use mathlib.Core.Path.{_∙_}
+use mathlib.Core.Path.{refl, _∙_}
 use mathlib.Core.Bool.{false}
 use native.Mathlib.Omega.{arith}
 use borrow.Author.Tests.{lt-ltb, le-ltb}
@@ -32,7 +32,7 @@ returns c =
     let a = c .before .before .before .before in
     let x = a .args .x in
     let e = size-negative (x .carry) (x .residue) (in-range a) (c .before .before .if1 .taken) (c .before .if2 .taken) in
-    c .at-most .ensures ∙ rw (lt-ltb (x .residue) (2 ^ 50) (c .before .before .if1 .taken), e)
+    c .at-most .ensures ∙ rw (lt-ltb (x .residue) (2 ^ 50) (c .before .before .if1 .taken), e) refl
 
 cast-at-most-2 : tie.Need-cast-at-most-2
 cast-at-most-2 c =
@@ -50,7 +50,7 @@ returns-2 c =
     let a = c .before .before .before .before in
     let x = a .args .x in
     let e = size-positive (x .carry) (x .residue) (in-range a) (c .before .if2 .left) in
-    c .at-most2 .ensures ∙ rw (lt-ltb (x .residue) (2 ^ 50) (c .before .before .if1 .taken), e)
+    c .at-most2 .ensures ∙ rw (lt-ltb (x .residue) (2 ^ 50) (c .before .before .if1 .taken), e) refl
 
 returns-3 : tie.Need-returns-3
 unfolding soundHeld

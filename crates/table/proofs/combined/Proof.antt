@@ -1,9 +1,16 @@
 -- `combined` is the definition, field by field; records of one top go the short way.
-use Prim.Native.Nat.{_≤_, max}
+use Prim.Native.Nat.{ℕ, _+_, _≤_, max}
+use mathlib.Core.Path.{_≡_}
 use native.Mathlib.Omega.{arith}
 use borrow.Author.Needs.{needs}
-use Rattle.table.specs.Combine.{combine}
+use Rattle.level.specs.declared.Held.{Held}
+use Rattle.level.specs.Level.{below}
+use Rattle.level.specs.Carry.{heldOf}
+use Rattle.record.specs.declared.Record.{Record}
+use Rattle.record.specs.Section.{meaning, recordOf}
 use Rattle.record.proofs.Parts.{sound-record-parts}
+use Rattle.table.specs.Combine.{combine}
+use Rattle.table.specs.Steps.{bothAt}
 use Rattle.table.proofs.combined.Statement.{statement}
 use Rattle.table.proofs.combined.Tie as tie
 
@@ -34,9 +41,21 @@ held-below-requires-2 c κs = let s = c .before .before .before .before .before 
 held-below-requires-3 : tie.Need-held-below-requires-3
 held-below-requires-3 c κs = let s = c .before .before .before .before .before .before .before .before in (omega (arith, top-within s, c .before .before .before .before .larger .ensures), (s .pre .0, s .pre .1 .0))
 
-returns-2 : tie.Need-returns-2
+-- the fields in the code's order; each equation is asked of its own call
+joined :
+    (a b : Record) {t : ℕ} {high middle low : Held} →
+    t ≡ max (a .top) (b .top) →
+    high ≡ heldOf (below (bothAt (meaning a) (meaning b)) t 0) →
+    middle ≡ heldOf (below (bothAt (meaning a) (meaning b)) t 1) →
+    low ≡ heldOf (below (bothAt (meaning a) (meaning b)) t 2) →
+    record { key = a .key; count = a .count + b .count; top = t; zero = 0; high = high; middle = middle; low = low } ≡ recordOf (combine (meaning a) (meaning b))
 unfolding combine
-returns-2 c = cc
+joined a b e h m l = rw (h, m, l, e)
+
+returns-2 : tie.Need-returns-2
+returns-2 c =
+    let s = c .before .before .before .before .before .before .before .before .before in
+    joined (s .args .a) (s .args .b) (c .before .before .before .before .before .larger .ensures) (c .before .before .held-below .ensures) (c .before .held-below2 .ensures) (c .held-below3 .ensures)
 
 pub combined-spec : {M : Type 1} → statement M
 combined-spec =

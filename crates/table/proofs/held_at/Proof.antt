@@ -1,5 +1,6 @@
 -- `held_at` goes through the three levels, as the definition does.
 use Prim.Native.Nat.{_+_}
+use mathlib.Core.Path.{refl}
 use borrow.Author.Needs.{needs}
 use borrow.Author.Tests.{eq-eqb, ne-eqb}
 use Rattle.table.proofs.held_at.Statement.{statement}
@@ -22,7 +23,7 @@ add-if3 c = search needs
 returns-3 : tie.Need-returns-3
 returns-3 c =
     let a = c .before .before .before .before .before .before .before .args in
-    rw (ne-eqb (a .j) (a .r .top) (c .before .before .before .before .before .if1 .left), ne-eqb (a .j + 1) (a .r .top) (c .before .before .before .if2 .left), eq-eqb (a .j + 2) (a .r .top) (c .before .if3 .taken))
+    rw (ne-eqb (a .j) (a .r .top) (c .before .before .before .before .before .if1 .left), ne-eqb (a .j + 1) (a .r .top) (c .before .before .before .if2 .left), eq-eqb (a .j + 2) (a .r .top) (c .before .if3 .taken)) refl
 
 nothing-requires : tie.Need-nothing-requires
 nothing-requires c κs = search needs
