@@ -1,9 +1,9 @@
 use Rattle.finish.proofs.Outcomes.{finite-for, sum-for, line-by, found-sound, when-found, when-missing, when-unsound}
-use mathlib.Core.Path.{sym, ap, _∙_, subst}
+use mathlib.Core.Path.{_≡_, sym, ap, _∙_, subst}
 use denote.Ref.{now}
 use Rattle.record.specs.Section.{meaning, kept}
 use Rattle.finish.specs.Finish.{lineOf}
-use Rattle.finish.specs.Answer.{sumAnswer}
+use Rattle.finish.specs.Answer.{sumAnswer, lineAnswer}
 use Rattle.finish.specs.Steps.{FiniteSum, lineBy}
 use Rattle.finish.specs.declared.SectionSum.{SectionSum}
 use borrow.Author.Needs.{needs}
@@ -37,7 +37,8 @@ returns c =
     let s = c .before .before .before .before .before .before .before .args in
     let r = c .before .before .before .r .given in
     let m = meaning (r .0 .0) in
-    c .line-by .ensures
+    let e : lineAnswer (c .line-by .result) ≡ lineBy (m .key) (m .count) (sumAnswer (c .before .record-sum .result)) = c .line-by .ensures in
+    e
     ∙ ap (λ (t : SectionSum). lineBy (m .key) (m .count) (sumAnswer t)) (c .before .record-sum .ensures)
     ∙ ap (lineBy (m .key) (m .count)) (sum-for m)
     ∙ sym (line-by m)

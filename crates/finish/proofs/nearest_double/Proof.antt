@@ -81,7 +81,8 @@ returns-2 : tie.Need-returns-2
 returns-2 c =
     let a = c .before .before .before .before in
     let k = sized a in
-    c .sum-of-bits .ensures
+    let e : c .sum-of-bits .result ≡ made (c .before .nearest-bits .result) (a .distance .result .negative) = c .sum-of-bits .ensures in
+    e
     ∙ ap (λ (b : ℕ). made b (a .distance .result .negative)) (c .before .nearest-bits .ensures ∙ ap pattern (units-exact (natAbs (valued a)) (wide (a .distance .result .limbs)) _ (k .0)))
     ∙ ap (λ (s : Bool). made (pattern (natAbs (valued a))) s) (sym (k .1))
     ∙ answer (valued a)
