@@ -1,4 +1,5 @@
 use Rattle.finish.proofs.Hundredths.{hundredths-zero, half-fits, half-pos, hundredths-down, hundredths-up}
+use native.Mathlib.Omega.{arith}
 use borrow.Author.Needs.{needs}
 use Rattle.finish.proofs.nearest_hundredths.Statement.{statement}
 use Rattle.finish.proofs.nearest_hundredths.Tie as tie
@@ -19,7 +20,7 @@ add-result : tie.Need-add-result
 add-result c = half-fits (c .before .before .before .args .m) (c .before .before .before .args .r) (c .before .power .result) (c .before .before .before .pre .0) (c .before .before .if1 .left) (c .before .power .ensures)
 
 sub-result : tie.Need-sub-result
-sub-result c = half-pos (c .before .before .before .args .m) (c .before .before .before .args .r) (c .before .power .result) (c .before .before .before .pre .0) (c .before .before .if1 .left) (c .before .power .ensures)
+sub-result c = omega (arith, half-pos (c .before .before .before .args .m) (c .before .before .before .args .r) (c .before .power .result) (c .before .before .before .pre .0) (c .before .before .if1 .left) (c .before .power .ensures))
 
 shr-result : tie.Need-shr-result
 shr-result c = search needs

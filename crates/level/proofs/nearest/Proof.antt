@@ -1,6 +1,6 @@
 -- `nearest` rounds by what one addition carries into the quotient.
-use Prim.Native.Nat.{ℕ, _+_, _-_, _/_, _^_, _≤_, _<_}
-use mathlib.Core.Path.{sym, ap, ap₂, _∙_}
+use Prim.Native.Nat.{ℕ, _+_, _-_, _/_, _%_, _^_, _≤_, _<_}
+use mathlib.Core.Path.{_≡_, sym, ap, ap₂, _∙_}
 use native.Mathlib.Omega.{arith}
 use lib.Pow.{pow-pos, pow-mono}
 use lib.Ieee.Nearest.{closest}
@@ -45,8 +45,9 @@ shr-result c = search needs
 returns-2 : tie.Need-returns-2
 returns-2 c =
     let a = c .before .before .before .args in
-    let p = c .before .power in
-    ap₂ (λ (u v : ℕ). (a .x + (u - 1) + v) / 2 ^ a .d) (p .ensures) (c .parity .ensures) ∙ sym (closest-carry (a .x) (a .d) (omega arith))
+    let half : c .before .power .result ≡ 2 ^ (a .d - 1) = c .before .power .ensures in
+    let parity : c .parity .result ≡ a .x / 2 ^ a .d % 2 = c .parity .ensures in
+    ap₂ (λ (u v : ℕ). (a .x + (u - 1) + v) / 2 ^ a .d) half parity ∙ sym (closest-carry (a .x) (a .d) (omega arith))
 
 pub nearest-spec : {M : Type 1} → statement M
 nearest-spec =
