@@ -1,6 +1,6 @@
 -- `previous` compares the two last keys.
 use Prim.Native.Nat.{_*_, _≤_, _<_}
-use mathlib.Core.Path.{sym, _∙_}
+use mathlib.Core.Path.{_≡_, sym, _∙_}
 use native.Mathlib.Omega.{arith}
 use lib.ListN.{length}
 use Rattle.record.proofs.Sound.{sound-parts}
@@ -61,7 +61,8 @@ returns-3 : tie.Need-returns-3
 returns-3 c =
     let s = c .before .before .before .before .before .before .before in
     let a = s .args in
-    both-last (a .first .now) (a .second .now) (a .i) (a .j) (s .pre .0) (s .pre .1 .0) (s .pre .1 .1) (omega arith) (sym (c .before .before .before .u32-at .ensures) ∙ c .if3 .taken ∙ c .before .before .u32-at2 .ensures)
+    let same : c .before .before .before .u32-at .result ≡ c .before .before .u32-at2 .result = c .if3 .taken in
+    both-last (a .first .now) (a .second .now) (a .i) (a .j) (s .pre .0) (s .pre .1 .0) (s .pre .1 .1) (omega arith) (sym (c .before .before .before .u32-at .ensures) ∙ same ∙ c .before .before .u32-at2 .ensures)
 
 sub-t10 : tie.Need-sub-t10
 sub-t10 c = search needs

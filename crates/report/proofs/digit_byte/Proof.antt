@@ -1,3 +1,4 @@
+use mathlib.Core.Path.{refl}
 use borrow.Author.Tests.{lt-ltb, le-ltb}
 use Rattle.report.specs.Numerals.{digit}
 use borrow.Author.Needs.{needs}
@@ -25,7 +26,7 @@ add-result-2 c = search needs
 
 returns-2 : tie.Need-returns-2
 unfolding digit
-returns-2 c = rw (le-ltb _ _ (c .if1 .left))
+returns-2 c = rw (le-ltb _ _ (c .if1 .left)) refl
 
 pub digit-byte-spec : {M : Type 1} → statement M
 digit-byte-spec =
