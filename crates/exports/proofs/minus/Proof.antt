@@ -1,5 +1,5 @@
 use Prim.Native.Nat.{ℕ}
-use mathlib.Core.Path.{ap, _∙_}
+use mathlib.Core.Path.{_≡_, ap, _∙_}
 use lib.IntN.{pos, negℤ}
 use mir.Syntax.{w64}
 use mir.Val.{SFits}
@@ -18,7 +18,11 @@ with-sign-requires : tie.Need-with-sign-requires
 with-sign-requires c κs = search needs
 
 returns : tie.Need-returns
-returns c = let w = c .with-sign in let f : SFits w64 (w .result) = search needs in toZ-ofZ w64 (w .result) f ∙ w .ensures ∙ ap (λ (k : ℕ). negℤ (pos k)) (c .before .number .ensures)
+returns c =
+    let w = c .with-sign in
+    let f : SFits w64 (w .result) = search needs in
+    let e : w .result ≡ negℤ (pos (c .before .number .result)) = w .ensures in
+    toZ-ofZ w64 (w .result) f ∙ e ∙ ap (λ (k : ℕ). negℤ (pos k)) (c .before .number .ensures)
 
 pub minus-spec : {M : Type 1} → statement M
 minus-spec = tie.close (tie.spec number-requires cast-with-sign with-sign-requires returns)
