@@ -60,6 +60,7 @@ of o bs (sum a) = sum (bitsOf (sumOf o))
 of o bs (mill a) = mill (figureOf o)
 of o bs (leftToRight a) = leftToRight (toBits binary64 (addedUp (ofBits binary64 0) bs))
 
+-- the figure that the definitions give for a case's rows
 abbrev pub computed : Case → Figure
 computed c = of (section (c .rows)) (c .rows) (c .figure)
 
@@ -71,6 +72,7 @@ one = 0x3FF0000000000000
 abbrev row : List ℕ → Figure → Case
 row bs f = record { rows = bs; figure = f }
 
+-- document 01's figures B1 to B12, each with its rows
 abbrev pub book : List Case
 book =
     -- B1: 1; B2: -1; B3: 31.5; B4: 32; B5: 96

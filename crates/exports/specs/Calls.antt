@@ -12,10 +12,11 @@ abbrev pub returned : {A : Type 0} → (A → ℕ) → Outcome A → ℤ
 returned f (accepted x) = pos (f x)
 returned f (refused r) = negℤ (pos r)
 
--- a count is returned as it is; a call that writes its values out returns 0
+-- a count is returned as it is
 abbrev pub count : ℕ → ℕ
 count n = n
 
+-- a call that writes its values out returns 0
 abbrev pub none : {A : Type 0} → A → ℕ
 none x = 0
 

@@ -11,16 +11,19 @@ use Rattle.finish.specs.declared.FinishedLine.{FinishedLine}
 use Rattle.finish.specs.declared.LineAnswer.{LineAnswer}
 use Rattle.finish.specs.declared.LineAnswer.the-variants as lines
 
+-- a sum's four cases: a finite double, 13, 14 and 7
 abbrev pub sumAnswer : SectionSum → Outcome Float
 sumAnswer (Finite x) = accepted x
 sumAnswer Absent = refused 13
 sumAnswer TooLarge = refused 14
 sumAnswer NotSound = refused 7
 
+-- a mill figure, or the refusal's number
 abbrev pub figureAnswer : FigureAnswer → Outcome ℤ
 figureAnswer (figures.Figure z) = accepted z
 figureAnswer (figures.Refused r) = refused (numberOf r)
 
+-- a finished line, or the refusal's number
 abbrev pub lineAnswer : LineAnswer → Outcome FinishedLine
 lineAnswer (lines.Line l) = accepted l
 lineAnswer (lines.Refused r) = refused (numberOf r)

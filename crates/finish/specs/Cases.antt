@@ -116,7 +116,7 @@ bound : (map tooLarge (pos limit ∷ pos (limit - 1) ∷ negℤ (pos limit) ∷ 
 unfolding tooLarge nearestDouble round ofBits
 bound = (refl, refl)
 
--- ---- in a table of one record, of section 7 with the row 1.5: its line; a section that is absent; more records than there are bytes; document 01's
+-- in a table of one record, of section 7 with the row 1.5: its line; a section that is absent; more records than there are bytes; document 01's
 -- examples of 13 and 7
 table : List ℕ
 table = sectionBytes (record { key = 7; count = 1; top = 26; high = pos (3 * 2 ^ 33); middle = pos 0; low = pos 0 } ∷ [])

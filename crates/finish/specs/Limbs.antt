@@ -22,10 +22,11 @@ pub record InRange (h : Held) : Type 0 where
 abbrev pub keptOf : ℕ → ℤ → ℤ → ℤ → ℤ
 keptOf t x y z = x *ℤ pos (unit t) +ℤ y *ℤ pos (unit (t - 1)) +ℤ z *ℤ pos (unit (t - 2))
 
--- levels below 0 hold 0
+-- a level that holds 0
 abbrev pub Empty : Held → Type 0
 Empty h = (h .residue ≡ 0) × (h .carry ≡ pos 0)
 
+-- where the top is below 1 or 2, the levels below 0 hold 0
 pub record Bottom (t : ℕ) (middle low : Held) : Type 0 where
   pub one : t < 1 → Empty middle
   pub two : t < 2 → Empty low
@@ -66,9 +67,11 @@ Apart true v p q = (v + p ≡ q) × (0 < v)
 
 -- ---- totals counted up from -2^72, so that none is negative
 
+-- the carry of a total that is counted up
 abbrev pub raisedCarry : ℤ → ℕ
 raisedCarry c = natAbs (c +ℤ pos (2 ^ 22))
 
+-- the total counted up: its residue and that carry
 abbrev pub raisedTotal : Held → ℕ
 raisedTotal h = h .residue + 2 ^ 50 * raisedCarry (h .carry)
 
@@ -93,13 +96,15 @@ closestUp a = closest (wide a) (2 ^ 107)
 abbrev pub unitsOf : List ℕ → ℕ → ℕ
 unitsOf a t = wide a * 2 ^ (40 * t) / 2 ^ 80
 
--- how many digits of n a double drops, the nearest number of what is kept, and the bits without the sign
+-- how many digits of n a double drops
 abbrev pub dropped : ℕ → ℕ
 dropped n = size n - 53
 
+-- what is kept of n: the nearest number of its leading digits, a tie to the even one
 abbrev pub nearby : ℕ → ℕ
 nearby n = closest n (2 ^ dropped n)
 
+-- the bits of the nearest double without its sign: the field below the kept digits
 abbrev pub pattern : ℕ → ℕ
 pattern n = dropped n * 2 ^ 52 + nearby n
 

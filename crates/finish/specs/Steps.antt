@@ -36,11 +36,12 @@ FiniteSum Absent = Unit
 FiniteSum TooLarge = Unit
 FiniteSum NotSound = Unit
 
--- the figure and the line, by the sum's outcome
+-- the mill figure, by the sum's outcome
 abbrev pub figureBy : Outcome Float → Outcome ℤ
 figureBy (accepted x) = cond (beyond (millFigure x)) (refused 15) (accepted (millFigure x))
 figureBy (refused n) = refused n
 
+-- the line of section k with n rows, by the sum's outcome
 abbrev pub lineBy : ℕ → ℕ → Outcome Float → Outcome FinishedLine
 lineBy k n (accepted x) = cond (beyond (millFigure x)) (refused 15) (accepted (record { key = k; count = n; sum = x; figure = millFigure x }))
 lineBy k n (refused m) = refused m

@@ -47,6 +47,7 @@ addRowsGrounds len rows ks vs work =
     ∷ ground 12 (tooManyKeys len (rows ++ rowsOf 8 ks vs))
     ∷ []
 
+-- it is accepted with the number of distinct keys
 abbrev pub addRowsOutcome : ℕ → List Row → List ℕ → List ℕ → ℕ → Outcome ℕ
 addRowsOutcome len rows ks vs work = outcome (addRowsGrounds len rows ks vs work) (length (keysOf (rows ++ rowsOf 8 ks vs)))
 
@@ -54,6 +55,7 @@ addRowsOutcome len rows ks vs work = outcome (addRowsGrounds len rows ks vs work
 unfoldable pub mergeRowsGrounds : ℕ → List Row → List Row → List Ground
 mergeRowsGrounds len rows others = ground 11 (tooManyRows (rows ++ others)) ∷ ground 12 (tooManyKeys len (rows ++ others)) ∷ []
 
+-- it is accepted with the number of distinct keys
 abbrev pub mergeRowsOutcome : ℕ → List Row → List Row → Outcome ℕ
 mergeRowsOutcome len rows others = outcome (mergeRowsGrounds len rows others) (length (keysOf (rows ++ others)))
 
@@ -68,6 +70,7 @@ brought (refused n) rows new = rows
 abbrev pub put : {A : Type 0} → ℕ → A → (ℕ → A) → ℕ → A
 put i x s j = cond (eqb j i) x (s j)
 
+-- every table's rows after one call
 unfoldable pub stepRows : (ℕ → ℕ) → (ℕ → List Row) → Call → ℕ → List Row
 stepRows len rows (add i ks vs work) = put i (brought (addRowsOutcome (len i) (rows i) ks vs work) (rows i) (rowsOf 8 ks vs)) rows
 stepRows len rows (merge i j d) = put i (brought (mergeRowsOutcome (len i) (rows i) (rows j)) (rows i) (rows j)) rows
@@ -75,6 +78,7 @@ stepRows len rows (sum i k) = rows
 stepRows len rows (figure i k) = rows
 stepRows len rows (line i k) = rows
 
+-- every table's rows after a list of calls
 unfoldable pub rowsAfter : (ℕ → ℕ) → (ℕ → List Row) → List Call → ℕ → List Row
 rowsAfter len rows [] = rows
 rowsAfter len rows (c ∷ cs) = rowsAfter len (stepRows len rows c) cs

@@ -23,10 +23,11 @@ pub record History : Type 0 where
   pub calls : List Call
   pub lent : anyOf (λ (c : Call). not (lendsBytes c)) calls ≡ false
 
--- the tables at the start: no groups, and no rows
+-- the tables at the start: no groups
 abbrev pub empty : History → ℕ → Store
 empty h i = record { bytes = h .start i; groups = 0 }
 
+-- a table has no rows at the start
 abbrev pub noRows : ℕ → List Row
 noRows i = []
 
@@ -42,12 +43,15 @@ rows h i = rowsAfter (lengths h) noRows (h .calls) i
 abbrev pub table : History → ℕ → Store
 table h i = tablesAfter (empty h) (h .calls) i
 
+-- document 01's used bytes
 abbrev pub used : Store → List ℕ
 used t = take (64 * t .groups) (t .bytes)
 
+-- the sections that a table holds
 abbrev pub sectionsIn : Store → List Section
 sectionsIn t = sections (t .bytes) (t .groups)
 
+-- the one claim, about the whole of every list of calls
 pub record Demand3 : Type 0 where
   -- a table holds the records that document 01 fixes for its rows, and after them what its buffer held at the start
   pub fixed : (h : History) (i : ℕ)

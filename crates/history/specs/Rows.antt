@@ -7,6 +7,7 @@ use lib.Dec.{ltb, eqb}
 use Rattle.level.specs.Double.{size}
 use Rattle.patch.specs.Rows.{Row}
 
+-- two rows have the same number and the same bits
 abbrev pub equalRows : Row → Row → Bool
 equalRows r s = eqb (r .key) (s .key) && eqb (r .bits) (s .bits)
 

@@ -24,13 +24,16 @@ abbrev pub after : Outcome ℕ → List ℕ → ℕ → Store
 after (accepted n) s g = record { bytes = s; groups = n }
 after (refused n) s g = record { bytes = s; groups = g }
 
+-- the table t after an add
 abbrev pub afterAdd : Store → List ℕ → List ℕ → ℕ → Store
 afterAdd t ks vs work = after (addOutcome (t .bytes) (t .groups) ks vs work) (addLeaves (t .bytes) (t .groups) ks vs work) (t .groups)
 
+-- the table t after a merge of u into it
 abbrev pub afterMerge : Store → Store → Store
 afterMerge t u =
     after (mergeOutcome (t .bytes) (t .groups) (u .bytes) (u .groups)) (mergeLeaves (t .bytes) (t .groups) (u .bytes) (u .groups)) (t .groups)
 
+-- every table after one call; a finishing changes none
 unfoldable pub step : (ℕ → Store) → Call → ℕ → Store
 step t (add i ks vs work) = put i (afterAdd (t i) ks vs work) t
 step t (merge i j d) = put i (afterMerge (t i) (t j)) t
@@ -38,25 +41,29 @@ step t (sum i k) = t
 step t (figure i k) = t
 step t (line i k) = t
 
+-- every table after a list of calls
 unfoldable pub tablesAfter : (ℕ → Store) → List Call → ℕ → Store
 tablesAfter t [] = t
 tablesAfter t (c ∷ cs) = tablesAfter (step t c) cs
 
 -- ---- answers
 
+-- what a call answers: the new group count, a sum, a mill figure or a finished line
 pub data Answer : Type 0 where
   groupsAre : Outcome ℕ → Answer
   sumIs : Outcome Float → Answer
   figureIs : Outcome ℤ → Answer
   lineIs : Outcome FinishedLine → Answer
 
--- finishing section k in a table
+-- the sum of section k in a table
 abbrev pub sumIn : Store → ℕ → Outcome Float
 sumIn t k = sumOutcome (t .bytes) (t .groups) k
 
+-- the mill figure of section k in a table
 abbrev pub figureIn : Store → ℕ → Outcome ℤ
 figureIn t k = figureOutcome (t .bytes) (t .groups) k
 
+-- the finished line of section k in a table
 abbrev pub lineIn : Store → ℕ → Outcome FinishedLine
 lineIn t k = lineOutcome (t .bytes) (t .groups) k
 
@@ -68,6 +75,7 @@ answer t (sum i k) = sumIs (sumIn (t i) k)
 answer t (figure i k) = figureIs (figureIn (t i) k)
 answer t (line i k) = lineIs (lineIn (t i) k)
 
+-- what a list of calls answers, one by one
 unfoldable pub answers : (ℕ → Store) → List Call → List Answer
 answers t [] = []
 answers t (c ∷ cs) = answer t c ∷ answers (step t c) cs
@@ -80,6 +88,7 @@ answerRows len rows (sum i k) = sumIs (sumOf (sectionIf k (bitsOf k (rows i))))
 answerRows len rows (figure i k) = figureIs (figureOf (sectionIf k (bitsOf k (rows i))))
 answerRows len rows (line i k) = lineIs (lineOf (sectionIf k (bitsOf k (rows i))))
 
+-- what a list of calls is to answer by the tables' rows alone
 unfoldable pub answersRows : (ℕ → ℕ) → (ℕ → List Row) → List Call → List Answer
 answersRows len rows [] = []
 answersRows len rows (c ∷ cs) = answerRows len rows c ∷ answersRows len (stepRows len rows c) cs
@@ -89,6 +98,7 @@ unfoldable pub isRefusal : {A : Type 0} → ℕ → Outcome A → Bool
 isRefusal n (accepted x) = false
 isRefusal n (refused m) = eqb n m
 
+-- the answer is refusal n
 abbrev pub refuses : ℕ → Answer → Bool
 refuses n (groupsAre o) = isRefusal n o
 refuses n (sumIs o) = isRefusal n o

@@ -3,6 +3,7 @@ use Prim.Native.Nat.{ℕ}
 use Rattle.level.specs.Level.{top, contribution, below}
 use Rattle.level.specs.declared.Contributions.{Contributions}
 
+-- a row's top and its contributions to the levels top, top - 1 and top - 2; below level 0 it gives 0
 abbrev pub contributionsOf : ℕ → Contributions
 contributionsOf b =
     record {

@@ -13,13 +13,15 @@ use Rattle.table.specs.Combine.{combine}
 use Rattle.table.specs.Calls.{mergeSections}
 use Rattle.merge.specs.declared.Ends.{Ends}
 
--- the key, the row count and the section of record i
+-- the key of record i
 abbrev pub keyAt : List ℕ → ℕ → ℕ
 keyAt s i = numberAt 4 s (i * 64)
 
+-- the row count of record i
 abbrev pub countAt : List ℕ → ℕ → ℕ
 countAt s i = numberAt 4 s (i * 64 + 4)
 
+-- the section of record i
 abbrev pub sectionIn : List ℕ → ℕ → Section
 sectionIn s i = meaning (recordAt s (i * 64))
 

@@ -26,6 +26,7 @@ soundRecord r =
     && soundHeld (r .count) (r .high) && soundHeld (r .count) (r .middle) && soundHeld (r .count) (r .low)
     && (leb 1 (r .top) || isZero (r .middle)) && (leb 2 (r .top) || isZero (r .low))
 
+-- every record is sound by itself
 unfoldable pub soundRecords : List Record → Bool
 soundRecords [] = true
 soundRecords (r ∷ rs) = soundRecord r && soundRecords rs

@@ -3,6 +3,7 @@ use Prim.Native.Nat.{ℕ}
 use Rattle.refusal.specs.declared.Refusal.{Refusal}
 use Rattle.refusal.specs.declared.Refusal.the-variants.{FileTooLong, FileTooShort, MarkMissing, KeyDistance, ValueDistance, ColumnsOverlap, TableNotSound, WorkTooShort, ColumnLengths, RowNotFinite, TooManyRows, TooManyKeys, SectionAbsent, SumTooLarge, FigureTooLarge}
 
+-- document 01's number of each refusal
 abbrev pub numberOf : Refusal → ℕ
 numberOf FileTooLong = 1
 numberOf FileTooShort = 2

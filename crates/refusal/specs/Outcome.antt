@@ -3,6 +3,7 @@ use Prim.Native.Nat.{ℕ}
 use mathlib.Core.Bool.{Bool, cond}
 use mathlib.Core.List.{List, [], _∷_}
 
+-- the values of an accepted call, or a refused one's number
 pub data Outcome (A : Type 0) : Type 0 where
   accepted : A → Outcome A
   refused : ℕ → Outcome A
@@ -12,6 +13,7 @@ pub record Ground : Type 0 where
   pub number : ℕ
   pub holds : Bool
 
+-- refusal n, if b holds
 abbrev pub ground : ℕ → Bool → Ground
 ground n b = record { number = n; holds = b }
 

@@ -13,6 +13,7 @@ abbrev pub printedAnswer : Printed → Outcome ℕ
 printedAnswer (Length n) = accepted n
 printedAnswer TooShort = refused 16
 
+-- the buffer out is shorter than the text w
 abbrev pub tooShort : List ℕ → List ℕ → Bool
 tooShort out w = ltb (length out) (length w)
 

@@ -13,9 +13,11 @@ use Rattle.finish.specs.Finish.{sumOf, figureOf}
 use Rattle.table.specs.Calls.{addOutcome, addSections}
 use Rattle.report.specs.Numerals.{decimal, integer, hexadecimal}
 
+-- one space
 abbrev pub space : List ℕ
 space = 0x20 ∷ []
 
+-- one line feed
 abbrev pub lineFeed : List ℕ
 lineFeed = 0x0A ∷ []
 
@@ -62,6 +64,7 @@ unfoldable pub addText : Outcome ℕ → List Section → List ℕ
 addText (accepted g) ts = headLine ++ image lineText ts
 addText (refused n) ts = refusal n ++ lineFeed
 
+-- what the add of two columns to an empty table prints
 unfoldable pub columnsText : List ℕ → List ℕ → List ℕ
 columnsText ks vs = addText (addOutcome emptyTable 0 ks vs 4096) (addSections emptyTable 0 ks vs)
 

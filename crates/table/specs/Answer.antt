@@ -5,6 +5,7 @@ use Rattle.refusal.specs.Outcome.{Outcome, accepted, refused}
 use Rattle.table.specs.declared.TableAnswer.{TableAnswer}
 use Rattle.table.specs.declared.TableAnswer.the-variants.{Groups, Refused}
 
+-- a group count, or the refusal's number
 abbrev pub tableAnswer : TableAnswer → Outcome ℕ
 tableAnswer (Groups g) = accepted g
 tableAnswer (Refused r) = refused (numberOf r)
