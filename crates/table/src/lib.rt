@@ -69,7 +69,7 @@ fn larger(x: u32, y: u32) -> u32
 }
 
 // Two records of one section and one top as one: their levels stand side by side.
-fn combined_even(a: Record, b: Record) -> Record
+pub fn combined_even(a: Record, b: Record) -> Record
     requires { ⌜ T (soundRecord a) ⌝ }
     requires { ⌜ T (soundRecord b) ⌝ }
     requires { ⌜ (a .top ≡ b .top) × (a .count + b .count < 2 ^ 32) ⌝ }
