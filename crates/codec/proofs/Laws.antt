@@ -2,7 +2,7 @@
 use Prim.Native.Nat.{ℕ, zero, suc, _+_, _-_, _*_, _/_, _%_, _^_, _<_, _≤_, zero-le}
 use mathlib.Core.Path.{_≡_, refl, sym, ap, subst, _∙_}
 use mathlib.Core.List.{List, [], _∷_, _++_, append-assoc}
-use native.Mathlib.Nat.{pow-suc, add-suc, suc-add, add-zero, le-of-eq, le-refl, one-le-pow}
+use native.Mathlib.Nat.{pow-suc, add-suc, suc-add, zero-add, add-zero, le-of-eq, le-refl, one-le-pow}
 use native.Mathlib.Omega.{arith}
 use lib.Dec.{T, leb, lit<}
 use borrow.Author.Tests.{le-ltb, le-leb, leb-true}
@@ -33,6 +33,18 @@ number-bytes (suc w) x h =
 pub numberAt-cons : (n a : ℕ) (s : List ℕ) → a < length s → numberAt (suc n) s a ≡ getD s a 0 + 256 * numberAt n s (suc a)
 unfolding number numberAt
 numberAt-cons n a s h = rw (drop-cons s a 0)
+
+pub numberAt-none : (a : ℕ) (s : List ℕ) → numberAt 0 s a ≡ 0
+unfolding number numberAt
+numberAt-none a s = refl
+
+-- a field is its first bytes and the field after them
+pub numberAt-add : (n m a : ℕ) (s : List ℕ) → a + (n + m) ≤ length s → numberAt (n + m) s a ≡ numberAt n s a + 256 ^ n * numberAt m s (a + n)
+numberAt-add zero m a s h = rw (zero-add, add-zero) (omega (arith, numberAt-none a s))
+numberAt-add (suc n) m a s h =
+    let e : a + suc n ≡ suc a + n = omega arith in
+    rw (suc-add, pow-suc, e)
+    (omega (arith, numberAt-cons (n + m) a s (omega arith), numberAt-cons n a s (omega arith), numberAt-add n m (suc a) s (omega arith)))
 
 -- a field of a part is a field of the whole
 pub numberAt-drop : (w a k : ℕ) (s : List ℕ) → numberAt w (drop a s) k ≡ numberAt w s (a + k)

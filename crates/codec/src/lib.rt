@@ -8,20 +8,6 @@ ghost use mir.Syntax.{w64};
 ghost use mir.Val.{toZ, ofZ};
 ghost use Rattle.codec.specs.Bytes.{bytes, numberAt};
 
-// The number in the w bytes from at on.
-pub fn read(s: &[u8], at: usize, w: usize) -> u64
-    requires { ⌜ (w ≤ 8) × (at + w ≤ length (now s)) ⌝ }
-    ensures { λ r. ⌜ (r ≡ numberAt w (now (s .entry)) at) × (r < 256 ^ w) ⌝ }
-{
-    let mut x: u64 = 0;
-    let mut k = w;
-    while 0 < k {
-        k -= 1;
-        x = x * 256 + (s[at + k] as u64);
-    }
-    x
-}
-
 // The w bytes of x are put in place from at on.
 pub fn write(s: &mut [u8], at: usize, w: usize, x: u64)
     requires { ⌜ at + w ≤ length (now s) ⌝ }
@@ -36,25 +22,27 @@ pub fn write(s: &mut [u8], at: usize, w: usize, x: u64)
     }
 }
 
+// Byte by byte and in no loop: so the compiler makes one load of it before it decides what to inline.
 pub fn u32_at(s: &[u8], at: usize) -> u32
     requires { ⌜ at + 4 ≤ length (now s) ⌝ }
     ensures { λ r. ⌜ r ≡ numberAt 4 (now (s .entry)) at ⌝ }
 {
-    read(s, at, 4) as u32
+    let low = (s[at] as u32) + (s[at + 1] as u32) * 256;
+    low + (s[at + 2] as u32) * 65536 + (s[at + 3] as u32) * 16777216
 }
 
 pub fn u64_at(s: &[u8], at: usize) -> u64
     requires { ⌜ at + 8 ≤ length (now s) ⌝ }
     ensures { λ r. ⌜ r ≡ numberAt 8 (now (s .entry)) at ⌝ }
 {
-    read(s, at, 8)
+    (u32_at(s, at) as u64) + (u32_at(s, at + 4) as u64) * 4294967296
 }
 
 pub fn i64_at(s: &[u8], at: usize) -> i64
     requires { ⌜ at + 8 ≤ length (now s) ⌝ }
     ensures { λ r. ⌜ r ≡ toZ w64 (numberAt 8 (now (s .entry)) at) ⌝ }
 {
-    let x = read(s, at, 8);
+    let x = u64_at(s, at);
     if x < 9223372036854775808 {
         x as i64
     } else {

@@ -70,11 +70,12 @@ fn scale(bits: u64) -> u64
     if e == 0 { 0 } else { e - 1 }
 }
 
-// How many binary digits of the significand stand below the top's unit.
-fn shift(bits: u64) -> u64
+// How many binary digits of the significand stand below the unit of the row's top, t.
+fn shift(bits: u64, t: u64) -> u64
+    requires { ⌜ t ≡ top bits ⌝ }
     ensures { λ r. ⌜ r ≡ shiftOf bits ⌝ }
 {
-    40 * top_level(bits) - scale(bits)
+    40 * t - scale(bits)
 }
 
 pub fn power(d: u64) -> u64
@@ -193,14 +194,15 @@ pub struct Contributions {
 pub fn contributions_of(bits: u64) -> Contributions
     ensures { λ r. ⌜ r ≡ contributionsOf bits ⌝ }
 {
-    let d = shift(bits);
+    let t = top_level(bits);
+    let d = shift(bits, t);
     let sign = is_negative(bits);
     let first = cut_at(digits(bits), d);
     let next = lower_two(first.rest, d);
     let sign1 = turned(sign, first.over);
     let sign2 = turned(sign1, next.over);
     Contributions {
-        top: top_level(bits) as u32,
+        top: t as u32,
         high: with_sign(sign, first.units),
         middle: with_sign(sign1, next.middle),
         low: with_sign(sign2, next.low),

@@ -1,11 +1,11 @@
 // The 64-byte record of a section: read, written, tested and looked up in a lent buffer.
 ghost use mathlib.Core.Path.{_≡_};
-ghost use mathlib.Core.Bool.{_&&_, _||_};
+ghost use mathlib.Core.Bool.{cond, _&&_, _||_};
 ghost use Prim.Native.Nat.{_+_, _*_, _^_, _≤_};
 ghost use mathlib.Core.List.{_∷_, _++_};
 ghost use lib.ListN.{length, take, drop};
 ghost use lib.Seq.{sets};
-ghost use lib.Dec.{T, leb};
+ghost use lib.Dec.{T, ltb, leb};
 ghost use Rattle.record.specs.Layout.{heldAt, recordAt, encodeHeld, encode, decode, records};
 ghost use Rattle.record.specs.Keys.{keys, rising, place};
 ghost use Rattle.record.specs.Sound.{soundHeld, isZero, soundRecord, soundRecords, sound};
@@ -77,6 +77,13 @@ pub enum Place {
     Gap(usize),
 }
 
+// 1 for x below y, else 0. The quotient by 2^32 is 2 or 1. The compiler would make a jump of a comparison, but makes none of this.
+fn is_below(x: u32, y: u32) -> usize
+    ensures { λ r. ⌜ r ≡ cond (ltb x y) 1 0 ⌝ }
+{
+    (((y as u64) + 8589934591 - (x as u64)) >> 32) as usize - 1
+}
+
 pub fn find(t: &[u8], g: usize, key: u32) -> Place
     requires { ⌜ (g * 64 ≤ length (now t)) × T (rising (keys (records (now t) g))) ⌝ }
     ensures { λ r. ⌜ r ≡ place key (keys (records (now (t .entry)) g)) ⌝ }
@@ -86,10 +93,7 @@ pub fn find(t: &[u8], g: usize, key: u32) -> Place
     let mut n = g;
     while 0 < n {
         let half = (n + 1) / 2;
-        let mid = lo + half;
-        if codec::u32_at(t, (mid - 1) * 64) < key {
-            lo = mid;
-        }
+        lo += half * is_below(codec::u32_at(t, (lo + half - 1) * 64), key);
         n -= half;
     }
     if lo < g {
@@ -169,33 +173,24 @@ fn record_sound(r: Record) -> bool
     both(b, either(2 <= r.top, is_zero(r.low)))
 }
 
-fn rising_keys(t: &[u8], g: usize) -> bool
-    requires { ⌜ g * 64 ≤ length (now t) ⌝ }
-    ensures { λ r. ⌜ r ≡ rising (keys (records (now (t .entry)) g)) ⌝ }
-{
-    let mut j = 0;
-    while j + 1 < g {
-        let x = codec::u32_at(t, j * 64);
-        let y = codec::u32_at(t, (j + 1) * 64);
-        if y <= x {
-            return false;
-        }
-        j += 1;
-    }
-    true
-}
-
+// Whether the keys rise and each record is sound by itself.
 fn records_sound(t: &[u8], g: usize) -> bool
     requires { ⌜ g * 64 ≤ length (now t) ⌝ }
-    ensures { λ r. ⌜ r ≡ soundRecords (records (now (t .entry)) g) ⌝ }
+    ensures { λ r. ⌜ r ≡ rising (keys (records (now (t .entry)) g)) && soundRecords (records (now (t .entry)) g) ⌝ }
 {
     let mut i = 0;
     while i < g {
-        let ok = record_sound(get(t, i));
+        let r = get(t, i);
+        let ok = record_sound(r);
         if !ok {
             return false;
         }
         i += 1;
+        if i < g {
+            if codec::u32_at(t, i * 64) <= r.key {
+                return false;
+            }
+        }
     }
     true
 }
@@ -210,7 +205,5 @@ pub fn is_sound(t: &[u8], g: usize) -> bool
     if 1024 < g {
         return false;
     }
-    let a = rising_keys(t, g);
-    let b = records_sound(t, g);
-    both(a, b)
+    records_sound(t, g)
 }

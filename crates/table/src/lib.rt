@@ -69,7 +69,7 @@ fn larger(x: u32, y: u32) -> u32
 }
 
 // Two records of one section and one top as one: their levels stand side by side.
-fn combined_even(a: Record, b: Record) -> Record
+pub fn combined_even(a: Record, b: Record) -> Record
     requires { ⌜ T (soundRecord a) ⌝ }
     requires { ⌜ T (soundRecord b) ⌝ }
     requires { ⌜ (a .top ≡ b .top) × (a .count + b .count < 2 ^ 32) ⌝ }
@@ -86,16 +86,13 @@ fn combined_even(a: Record, b: Record) -> Record
     }
 }
 
-// Two records of one section as one.
-pub fn combined(a: Record, b: Record) -> Record
+// Two records of one section as one, level by level.
+pub fn combined_by_level(a: Record, b: Record) -> Record
     requires { ⌜ T (soundRecord a) ⌝ }
     requires { ⌜ T (soundRecord b) ⌝ }
     requires { ⌜ a .count + b .count < 2 ^ 32 ⌝ }
     ensures { λ r. ⌜ r ≡ recordOf (combine (meaning a) (meaning b)) ⌝ }
 {
-    if a.top == b.top {
-        return combined_even(a, b);
-    }
     let t = larger(a.top, b.top);
     let count = a.count + b.count;
     Record {
@@ -107,6 +104,22 @@ pub fn combined(a: Record, b: Record) -> Record
         middle: held_below(a, b, t, 1),
         low: held_below(a, b, t, 2),
     }
+}
+
+// Two records of one section as one.
+pub fn combined(a: Record, b: Record) -> Record
+    requires { ⌜ T (soundRecord a) ⌝ }
+    requires { ⌜ T (soundRecord b) ⌝ }
+    requires { ⌜ a .count + b .count < 2 ^ 32 ⌝ }
+    ensures { λ r. ⌜ r ≡ recordOf (combine (meaning a) (meaning b)) ⌝ }
+{
+    if a.top == b.top {
+        return combined_even(a, b);
+    }
+    // Copies of their own, so that records of one top stay in registers and only these are stored for the call.
+    let x = a;
+    let y = b;
+    combined_by_level(x, y)
 }
 
 // The record of one row.

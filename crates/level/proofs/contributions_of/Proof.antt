@@ -22,6 +22,9 @@ use Rattle.level.proofs.Ladder.{scaled, row-scaled}
 use Rattle.level.proofs.contributions_of.Statement.{statement}
 use Rattle.level.proofs.contributions_of.Tie as tie
 
+top-level-requires : tie.Need-top-level-requires
+top-level-requires c κs = search needs
+
 shift-requires : tie.Need-shift-requires
 shift-requires c κs = search needs
 
@@ -32,12 +35,12 @@ digits-requires : tie.Need-digits-requires
 digits-requires c κs = search needs
 
 cut-at-requires : tie.Need-cut-at-requires
-cut-at-requires c κs = let b = c .before .before .before .args .bits in omega (arith, significand-lt b, top-place b)
+cut-at-requires c κs = let b = c .before .before .before .before .args .bits in omega (arith, significand-lt b, top-place b)
 
 lower-two-requires : tie.Need-lower-two-requires
 lower-two-requires c κs =
     let d = c .before .before .before .shift .result in
-    omega (arith, rest-half (c .before .digits .result) (2 ^ d) (pow-pos d), top-place (c .before .before .before .before .args .bits))
+    omega (arith, rest-half (c .before .digits .result) (2 ^ d) (pow-pos d), top-place (c .before .before .before .before .before .args .bits))
 
 turned-requires : tie.Need-turned-requires
 turned-requires c κs = search needs
@@ -45,28 +48,25 @@ turned-requires c κs = search needs
 turned-requires-2 : tie.Need-turned-requires-2
 turned-requires-2 c κs = search needs
 
-top-level-requires : tie.Need-top-level-requires
-top-level-requires c κs = search needs
-
-cast-t9 : tie.Need-cast-t9
-cast-t9 c = omega (arith, top-le (c .before .before .before .before .before .before .before .before .args .bits))
+cast-t10 : tie.Need-cast-t10
+cast-t10 c = omega (arith, top-le (c .before .before .before .before .before .before .before .before .args .bits))
 
 with-sign-requires : tie.Need-with-sign-requires
 with-sign-requires c κs =
-    let e = c .before .before .before .before in
+    let e = c .before .before .before in
     let d = e .before .before .before .shift .result in
-    omega (arith, closest-self (e .before .digits .result) (2 ^ d) (pow-pos d), significand-lt (e .before .before .before .before .args .bits))
+    omega (arith, closest-self (e .before .digits .result) (2 ^ d) (pow-pos d), significand-lt (e .before .before .before .before .before .args .bits))
 
 with-sign-requires-2 : tie.Need-with-sign-requires-2
 with-sign-requires-2 c κs =
-    let e = c .before .before .before .before .before in
+    let e = c .before .before .before .before in
     let d = e .before .before .before .shift .result in
     let h : e .cut-at .result .rest * 2 ≤ 2 ^ d = omega (arith, rest-half (e .before .digits .result) (2 ^ d) (pow-pos d)) in
     omega (arith, closest-step (e .cut-at .result .rest) (2 ^ d) (pow-pos d) h)
 
 with-sign-requires-3 : tie.Need-with-sign-requires-3
 with-sign-requires-3 c κs =
-    let e = c .before .before .before .before .before .before in
+    let e = c .before .before .before .before .before in
     let d = e .before .before .before .shift .result in
     let x = e .cut-at .result .rest * 2 ^ 40 in
     omega (arith, closest-step (restOf x (2 ^ d)) (2 ^ d) (pow-pos d) (rest-half x (2 ^ d) (pow-pos d)))
@@ -90,25 +90,26 @@ back z h = toZ-ofZ w64 z (record { sfits = h })
 
 returns : tie.Need-returns
 returns c =
-    let e = c .before .before .before .before .before .before .before in
+    let e = c .before .before .before .before .before .before in
     let f = e .cut-at in
-    let l = c .before .before .before .before .before .before .lower-two in
-    let s = c .before .before .before .before .before .turned in
-    let q = c .before .before .before .before .turned2 in
+    let l = c .before .before .before .before .before .lower-two in
+    let s = c .before .before .before .before .turned in
+    let q = c .before .before .before .turned2 in
     let x = e .before .digits in
     let g = e .before .before .is-negative in
     let d = e .before .before .before .shift in
-    let t = three (e .before .before .before .before .args .bits) (x .result) (d .result) (f .result .units) (f .result .rest) (l .result .middle) (l .result .low)
+    let t = three (e .before .before .before .before .before .args .bits) (x .result) (d .result) (f .result .units) (f .result .rest) (l .result .middle) (l .result .low)
     (g .result) (f .result .over) (s .result) (l .result .over) (q .result) (x .ensures) (d .ensures) (g .ensures) (f .ensures) (l .ensures) (s .ensures) (q .ensures) in
     let high = back _ (c .before .before .with-sign .ok) ∙ c .before .before .with-sign .ensures ∙ t .0 in
     let middle = back _ (c .before .with-sign2 .ok) ∙ c .before .with-sign2 .ensures ∙ t .1 in
     let low = back _ (c .with-sign3 .ok) ∙ c .with-sign3 .ensures ∙ t .2 in
-    λ i. record { top = c .before .before .before .top-level .ensures i; high = high i; middle = middle i; low = low i }
+    λ i. record { top = e .before .before .before .before .top-level .ensures i; high = high i; middle = middle i; low = low i }
 
 pub contributions-of-spec : {M : Type 1} → statement M
 contributions-of-spec =
     tie.close
     (tie.spec
+    top-level-requires
     shift-requires
     is-negative-requires
     digits-requires
@@ -116,8 +117,7 @@ contributions-of-spec =
     lower-two-requires
     turned-requires
     turned-requires-2
-    top-level-requires
-    cast-t9
+    cast-t10
     with-sign-requires
     with-sign-requires-2
     with-sign-requires-3

@@ -5,20 +5,17 @@ use borrow.Author.Needs.{needs}
 use Rattle.level.proofs.shift.Statement.{statement}
 use Rattle.level.proofs.shift.Tie as tie
 
-top-level-requires : tie.Need-top-level-requires
-top-level-requires c κs = search needs
-
 mul-result : tie.Need-mul-result
-mul-result c = omega (arith, top-le (c .before .args .bits))
+mul-result c = omega (arith, top-le (c .args .bits))
 
 scale-requires : tie.Need-scale-requires
 scale-requires c κs = search needs
 
 sub-result : tie.Need-sub-result
-sub-result c = omega (arith, top-place (c .before .before .args .bits))
+sub-result c = omega (arith, top-place (c .before .args .bits))
 
 returns : tie.Need-returns
 returns c = search needs
 
 pub shift-spec : {M : Type 1} → statement M
-shift-spec = tie.close (tie.spec top-level-requires mul-result scale-requires sub-result returns)
+shift-spec = tie.close (tie.spec mul-result scale-requires sub-result returns)

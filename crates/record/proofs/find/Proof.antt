@@ -1,10 +1,13 @@
 use Prim.Native.Nat.{ℕ, _+_, _-_, _*_, _/_, _≤_, _<_, zero-le}
-use mathlib.Core.Path.{_≡_, sym, _∙_}
+use mathlib.Core.Path.{_≡_, refl, sym, _∙_}
 use mathlib.Core.List.{List}
-use mathlib.Core.Logic.{⊎-elim}
+use mathlib.Core.Bool.{Bool, true, false, cond}
+use mathlib.Core.Logic.{_⊎_, inl, inr, ⊎-elim}
 use native.Mathlib.Omega.{arith}
+use borrow.Author.Needs.{needs}
+use borrow.Author.Tests.{ltb-true, ltb-false}
 use lib.ListN.{length, getD}
-use lib.Dec.{T}
+use lib.Dec.{T, ltb}
 use Rattle.codec.specs.Bytes.{numberAt}
 use Rattle.record.specs.Layout.{records}
 use Rattle.record.specs.Keys.{keys, rising, countBelow, place}
@@ -37,6 +40,14 @@ module _ (s : List ℕ) (g key : ℕ) (pre : (g * 64 ≤ length s) × T (rising 
 past-all : (s : List ℕ) (g key : ℕ) → T (rising (keys (records s g))) → (i : ℕ) → i ≡ countBelow key (keys (records s g)) → g ≤ i → Gap i ≡ place key (keys (records s g))
 past-all s g key up i b h = place-gap key (keys (records s g)) up i b (λ l q. omega (arith, length-keys s g))
 
+-- a step goes up by half the records, or by none
+chosen : (h v key b : ℕ) → b ≡ cond (ltb v key) 1 0 → ((v < key) × (h * b ≡ h)) ⊎ ((key ≤ v) × (h * b ≡ 0))
+chosen h v key b e = by (ltb v key) refl e
+  where
+    by : (t : Bool) → ltb v key ≡ t → b ≡ cond t 1 0 → ((v < key) × (h * b ≡ h)) ⊎ ((key ≤ v) × (h * b ≡ 0))
+    by true q e = inl (ltb-true v key q, rw e (omega arith))
+    by false q e = inr (ltb-false v key q, rw e (omega arith))
+
 abbrev Inv-loop : tie.InvT-loop
 Inv-loop t g key lo₀ n₀ lo n = (lo ≤ countBelow key (keys (records t g))) × (countBelow key (keys (records t g)) ≤ lo + n) × (lo + n ≤ g)
 
@@ -51,8 +62,8 @@ loop-holds c =
 add-half : tie.Need-add-half Inv-loop μ-loop
 add-half c = omega arith
 
-add-mid : tie.Need-add-mid Inv-loop μ-loop
-add-mid c = omega arith
+add-u32-at : tie.Need-add-u32-at Inv-loop μ-loop
+add-u32-at c = omega arith
 
 sub-u32-at : tie.Need-sub-u32-at Inv-loop μ-loop
 sub-u32-at c = omega arith
@@ -62,6 +73,15 @@ mul-u32-at c = omega arith
 
 u32-at-requires : tie.Need-u32-at-requires Inv-loop μ-loop
 u32-at-requires c κs = omega arith
+
+is-below-requires : tie.Need-is-below-requires Inv-loop μ-loop
+is-below-requires c κs = search needs
+
+mul-lo : tie.Need-mul-lo Inv-loop μ-loop
+mul-lo c = ⊎-elim (λ w. omega arith) (λ w. omega arith) (chosen ((c .before .before .before .loop .n + 1) / 2) (c .before .u32-at .result) (c .before .before .before .before .before .args .key) (c .is-below .result) (c .is-below .ensures))
+
+add-lo : tie.Need-add-lo Inv-loop μ-loop
+add-lo c = ⊎-elim (λ w. omega arith) (λ w. omega arith) (chosen ((c .before .before .before .loop .n + 1) / 2) (c .before .u32-at .result) (c .before .before .before .before .before .args .key) (c .is-below .result) (c .is-below .ensures))
 
 sub-n : tie.Need-sub-n Inv-loop μ-loop
 sub-n c = omega arith
@@ -76,9 +96,9 @@ loop-again c =
     let m = l .lo + (l .n + 1) / 2 - 1 in
     let u = c .before .u32-at in
     ⊎-elim
-    (λ w. omega (arith, smaller (a .args .t .now) (a .args .g) (a .args .key) (a .pre) m (u .result) (u .ensures) (omega arith) (w .0 .taken)))
-    (λ w. omega (arith, larger (a .args .t .now) (a .args .g) (a .args .key) (a .pre) m (u .result) (u .ensures) (omega arith) (w .0 .left)))
-    (c .if1 .came)
+    (λ w. omega (arith, smaller (a .args .t .now) (a .args .g) (a .args .key) (a .pre) m (u .result) (u .ensures) (omega arith) (w .0)))
+    (λ w. omega (arith, larger (a .args .t .now) (a .args .g) (a .args .key) (a .pre) m (u .result) (u .ensures) (omega arith) (w .0)))
+    (chosen ((c .before .before .before .loop .n + 1) / 2) (c .before .u32-at .result) (c .before .before .before .before .before .args .key) (c .is-below .result) (c .is-below .ensures))
 
 mul-u32-at-2 : tie.Need-mul-u32-at-2 Inv-loop μ-loop
 mul-u32-at-2 c = omega arith
@@ -90,18 +110,18 @@ returns : tie.Need-returns Inv-loop μ-loop
 returns c =
     let a = c .before .before .before .before .before .before in
     let u = c .before .u32-at2 in
-    found (a .args .t .now) (a .args .g) (a .args .key) (a .pre) (c .before .before .before .before .loop .lo) (u .result) (u .ensures) (omega arith) (omega arith) (c .if3 .taken)
+    found (a .args .t .now) (a .args .g) (a .args .key) (a .pre) (c .before .before .before .before .loop .lo) (u .result) (u .ensures) (omega arith) (omega arith) (c .if2 .taken)
 
 returns-2 : tie.Need-returns-2 Inv-loop μ-loop
 returns-2 c =
     let a = c .before .before .before .before .before .before in
     let u = c .before .u32-at2 in
-    missing (a .args .t .now) (a .args .g) (a .args .key) (a .pre) (c .before .before .before .before .loop .lo) (u .result) (u .ensures) (omega arith) (omega arith) (c .if3 .left)
+    missing (a .args .t .now) (a .args .g) (a .args .key) (a .pre) (c .before .before .before .before .loop .lo) (u .result) (u .ensures) (omega arith) (omega arith) (c .if2 .left)
 
 returns-3 : tie.Need-returns-3 Inv-loop μ-loop
 returns-3 c =
     let a = c .before .before .before .before in
-    past-all (a .args .t .now) (a .args .g) (a .args .key) (a .pre .1) (c .before .before .loop .lo) (omega arith) (c .if2 .left)
+    past-all (a .args .t .now) (a .args .g) (a .args .key) (a .pre .1) (c .before .before .loop .lo) (omega arith) (c .if1 .left)
 
 pub find-spec : {M : Type 1} → statement M
 find-spec =
@@ -111,10 +131,13 @@ find-spec =
     μ-loop
     loop-holds
     add-half
-    add-mid
+    add-u32-at
     sub-u32-at
     mul-u32-at
     u32-at-requires
+    is-below-requires
+    mul-lo
+    add-lo
     sub-n
     loop-less
     loop-again

@@ -19,20 +19,14 @@ returns-2 c =
     let a = c .before .before .before .args in
     rw (lt-leb (a .g) (capacity (length (a .t .now))) (omega arith))
 
-rising-keys-requires : tie.Need-rising-keys-requires
-rising-keys-requires c κs = search needs
-
 records-sound-requires : tie.Need-records-sound-requires
 records-sound-requires c κs = search needs
-
-both-requires : tie.Need-both-requires
-both-requires c κs = search needs
 
 returns-3 : tie.Need-returns-3
 unfolding sound
 returns-3 c =
-    let a = c .before .before .before .before .before .before .args in
-    rw (le-leb (a .g) (capacity (length (a .t .now))) (omega arith)) cc
+    let a = c .before .before .before .before .args in
+    rw (le-leb (a .g) (capacity (length (a .t .now))) (omega arith)) (c .records-sound .ensures)
 
 pub is-sound-spec : {M : Type 1} → statement M
 is-sound-spec =
@@ -40,7 +34,5 @@ is-sound-spec =
     (tie.spec
     returns
     returns-2
-    rising-keys-requires
     records-sound-requires
-    both-requires
     returns-3)

@@ -1,28 +1,36 @@
-use mathlib.Core.Bool.{not}
-use borrow.Author.Tests.{not-true, not-false}
-use lib.ListN.{drop-of-length-le}
-use Rattle.codec.proofs.Cells.{length-cells}
 use Prim.Native.Nat.{ℕ, suc, _+_, _-_, _*_, _≤_, _<_, zero-le}
-use mathlib.Core.Path.{_≡_, refl, sym, ap, _∙_}
-use mathlib.Core.Bool.{Bool, true, false, _&&_}
+use mathlib.Core.Path.{_≡_, refl, sym, ap, ap₂, _∙_}
+use mathlib.Core.Bool.{Bool, true, false, not, _&&_}
 use mathlib.Core.List.{List}
 use native.Mathlib.Omega.{arith}
-use borrow.Author.Needs.{needs}
 use native.Mathlib.Numerals.{add-one}
-use lib.ListN.{length, drop}
+use borrow.Author.Needs.{needs}
+use borrow.Author.Tests.{not-true, not-false}
+use lib.ListN.{length, getD, drop, drop-of-length-le}
+use Rattle.codec.specs.Bytes.{numberAt}
+use Rattle.codec.proofs.Cells.{length-cells}
 use Rattle.record.specs.declared.Record.{Record}
 use Rattle.record.specs.Layout.{recordAt, records, decode}
+use Rattle.record.specs.Keys.{keys, rising}
 use Rattle.record.specs.Sound.{soundRecord, soundRecords}
-use Rattle.record.proofs.Laws.{getD-records}
-use Rattle.record.proofs.Sound.{sound-cons}
+use Rattle.record.proofs.Laws.{getD-records, getD-keys, length-keys}
+use Rattle.record.proofs.Sound.{sound-cons, rising-more, rising-stop, rising-end}
 use Rattle.record.proofs.records_sound.Statement.{statement}
 use Rattle.record.proofs.records_sound.Tie as tie
 
+-- the records from i on
+abbrev from : List ℕ → ℕ → ℕ → Bool
+from s g i = rising (drop i (keys (records s g))) && soundRecords (drop i (records s g))
+
 abbrev Inv-loop : tie.InvT-loop
-Inv-loop t g i₀ i = (i ≤ g) × (soundRecords (drop i (records t g)) ≡ soundRecords (records t g))
+Inv-loop t g i₀ i = (i ≤ g) × (from t g i ≡ (rising (keys (records t g)) && soundRecords (records t g)))
 
 abbrev μ-loop : tie.MeasureT-loop
 μ-loop t g i₀ i = g - i
+
+and-false : (a : Bool) → (a && false) ≡ false
+and-false true = refl
+and-false false = refl
 
 -- one more record; r is the record as it was read, and ok the answer of its test
 module _ (s : List ℕ) (g i : ℕ) (fits : g * 64 ≤ length s) (h : i < g) {r : Record} (er : r ≡ recordAt s (i * 64)) {ok : Bool} (eo : ok ≡ soundRecord r) where
@@ -32,11 +40,33 @@ module _ (s : List ℕ) (g i : ℕ) (fits : g * 64 ≤ length s) (h : i < g) {r 
       ∙ ap (λ (x : Record). soundRecord x && soundRecords (drop (suc i) (records s g))) (getD-records s g fits i r h ∙ sym er)
       ∙ ap (λ (x : Bool). x && soundRecords (drop (suc i) (records s g))) (sym eo))
 
-  stop : not ok ≡ true → soundRecords (drop i (records s g)) ≡ false
-  stop e = here ∙ rw (not-true ok e)
+  stop : not ok ≡ true → from s g i ≡ false
+  stop e = rw (here, not-true ok e) (and-false (rising (drop i (keys (records s g)))))
 
   more : not ok ≡ false → soundRecords (drop i (records s g)) ≡ soundRecords (drop (i + 1) (records s g))
   more e = here ∙ rw (not-false ok e)
+
+  -- the last record
+  last : not ok ≡ false → g ≤ i + 1 → from s g i ≡ from s g (i + 1)
+  last e l =
+      let ks = keys (records s g) in
+      ap₂ (λ (a b : Bool). a && b) (rising-end ks i (omega (arith, length-keys s g)) ∙ sym (rising-end ks (i + 1) (omega (arith, length-keys s g)))) (more e)
+
+  -- the key of the next record is y, as it was read
+  module _ (l : i + 1 < g) {y : ℕ} (ey : y ≡ numberAt 4 s ((i + 1) * 64)) where
+    first : getD (keys (records s g)) i 0 ≡ r .key
+    first = getD-keys s g fits i h ∙ sym (ap (λ (x : Record). x .key) er)
+
+    second : getD (keys (records s g)) (suc i) 0 ≡ y
+    second = rw (← add-one i) (getD-keys s g fits (i + 1) l ∙ sym ey)
+
+    fall : y ≤ r .key → from s g i ≡ false
+    fall q = rw (rising-stop (keys (records s g)) i (omega (arith, length-keys s g)) (omega (arith, first, second)))
+
+    rise : not ok ≡ false → r .key < y → from s g i ≡ from s g (i + 1)
+    rise e q =
+        let up : rising (drop i (keys (records s g))) ≡ rising (drop (i + 1) (keys (records s g))) = rw add-one (rising-more (keys (records s g)) i (omega (arith, length-keys s g)) (omega (arith, first, second))) in
+        ap₂ (λ (a b : Bool). a && b) up (more e)
 
 loop-holds : tie.Need-loop-holds Inv-loop μ-loop
 loop-holds c = (zero-le, refl)
@@ -56,21 +86,47 @@ returns c =
 add-i : tie.Need-add-i Inv-loop μ-loop
 add-i c = omega arith
 
+mul-u32-at : tie.Need-mul-u32-at Inv-loop μ-loop
+mul-u32-at c = omega arith
+
+u32-at-requires : tie.Need-u32-at-requires Inv-loop μ-loop
+u32-at-requires c κs = omega arith
+
+returns-2 : tie.Need-returns-2 Inv-loop μ-loop
+returns-2 c =
+    let a = c .before .before .before .before .before .before .before .before .before .before in
+    let e = c .before .before .before .before in
+    let l = e .before .before .before .before .loop in
+    sym (fall (a .args .t .now) (a .args .g) (l .i) (a .pre) (omega arith) (e .before .before .get .ensures) (e .before .record-sound .ensures) (omega arith) (c .before .before .u32-at .ensures) (c .if3 .taken)) ∙ l .inv .1
+
 loop-less : tie.Need-loop-less Inv-loop μ-loop
 loop-less c = omega arith
 
 loop-again : tie.Need-loop-again Inv-loop μ-loop
 loop-again c =
-    let a = c .before .before .before .before .before .before in
-    let l = c .before .before .before .before .loop in
-    (omega arith, sym (more (a .args .t .now) (a .args .g) (l .i) (a .pre) (omega arith) (c .before .before .get .ensures) (c .before .record-sound .ensures) (c .if1 .left)) ∙ l .inv .1)
+    let a = c .before .before .before .before .before .before .before .before .before .before in
+    let e = c .before .before .before .before in
+    let l = e .before .before .before .before .loop in
+    (omega arith, sym (rise (a .args .t .now) (a .args .g) (l .i) (a .pre) (omega arith) (e .before .before .get .ensures) (e .before .record-sound .ensures) (omega arith) (c .before .before .u32-at .ensures) (e .if1 .left) (c .if3 .left)) ∙ l .inv .1)
 
-returns-2 : tie.Need-returns-2 Inv-loop μ-loop
+loop-less-2 : tie.Need-loop-less-2 Inv-loop μ-loop
+loop-less-2 c = omega arith
+
+loop-again-2 : tie.Need-loop-again-2 Inv-loop μ-loop
+loop-again-2 c =
+    let a = c .before .before .before .before .before .before .before in
+    let e = c .before in
+    let l = e .before .before .before .before .loop in
+    (omega arith, sym (last (a .args .t .now) (a .args .g) (l .i) (a .pre) (omega arith) (e .before .before .get .ensures) (e .before .record-sound .ensures) (e .if1 .left) (omega arith)) ∙ l .inv .1)
+
+returns-3 : tie.Need-returns-3 Inv-loop μ-loop
 unfolding soundRecords
-returns-2 c =
+returns-3 c =
     let a = c .before .before .before .args in
     let l = c .before .loop in
-    sym (ap soundRecords (drop-of-length-le (records (a .t .now) (a .g)) {i = l .i} (omega (arith, length-cells 64 decode (a .g) (a .t .now))))) ∙ l .inv .1
+    let rs = records (a .t .now) (a .g) in
+    sym (ap₂ (λ (x y : Bool). x && y) (rising-end (keys rs) (l .i) (omega (arith, length-keys (a .t .now) (a .g))))
+    (ap soundRecords (drop-of-length-le rs {i = l .i} (omega (arith, length-cells 64 decode (a .g) (a .t .now)))))) ∙ l .inv .1
 
 pub records-sound-spec : {M : Type 1} → statement M
 records-sound-spec =
@@ -83,6 +139,11 @@ records-sound-spec =
     record-sound-requires
     returns
     add-i
+    mul-u32-at
+    u32-at-requires
+    returns-2
     loop-less
     loop-again
-    returns-2)
+    loop-less-2
+    loop-again-2
+    returns-3)

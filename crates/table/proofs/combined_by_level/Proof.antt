@@ -1,4 +1,4 @@
--- `combined` is the definition, field by field; records of one top go the short way.
+-- `combined_by_level` is the definition, field by field.
 use Prim.Native.Nat.{ℕ, _+_, _≤_, max}
 use mathlib.Core.Path.{_≡_}
 use native.Mathlib.Omega.{arith}
@@ -11,14 +11,8 @@ use Rattle.record.specs.Section.{meaning, recordOf}
 use Rattle.record.proofs.Parts.{sound-record-parts}
 use Rattle.table.specs.Combine.{combine}
 use Rattle.table.specs.Steps.{bothAt}
-use Rattle.table.proofs.combined.Statement.{statement}
-use Rattle.table.proofs.combined.Tie as tie
-
-combined-even-requires : tie.Need-combined-even-requires
-combined-even-requires c κs = search needs
-
-returns : tie.Need-returns
-returns c = search needs
+use Rattle.table.proofs.combined_by_level.Statement.{statement}
+use Rattle.table.proofs.combined_by_level.Tie as tie
 
 larger-requires : tie.Need-larger-requires
 larger-requires c κs = search needs
@@ -33,13 +27,13 @@ top-within c =
     omega (arith, p .top, q .top)
 
 held-below-requires : tie.Need-held-below-requires
-held-below-requires c κs = let s = c .before .before .before .before .before .before in (omega (arith, top-within s, c .before .before .larger .ensures), (s .pre .0, s .pre .1 .0))
+held-below-requires c κs = let s = c .before .before .before in (omega (arith, top-within s, c .before .before .larger .ensures), (s .pre .0, s .pre .1 .0))
 
 held-below-requires-2 : tie.Need-held-below-requires-2
-held-below-requires-2 c κs = let s = c .before .before .before .before .before .before .before in (omega (arith, top-within s, c .before .before .before .larger .ensures), (s .pre .0, s .pre .1 .0))
+held-below-requires-2 c κs = let s = c .before .before .before .before in (omega (arith, top-within s, c .before .before .before .larger .ensures), (s .pre .0, s .pre .1 .0))
 
 held-below-requires-3 : tie.Need-held-below-requires-3
-held-below-requires-3 c κs = let s = c .before .before .before .before .before .before .before .before in (omega (arith, top-within s, c .before .before .before .before .larger .ensures), (s .pre .0, s .pre .1 .0))
+held-below-requires-3 c κs = let s = c .before .before .before .before .before in (omega (arith, top-within s, c .before .before .before .before .larger .ensures), (s .pre .0, s .pre .1 .0))
 
 -- the fields in the code's order; each equation is asked of its own call
 joined :
@@ -52,20 +46,18 @@ joined :
 unfolding combine
 joined a b e h m l = rw (h, m, l, e)
 
-returns-2 : tie.Need-returns-2
-returns-2 c =
-    let s = c .before .before .before .before .before .before .before .before .before in
+returns : tie.Need-returns
+returns c =
+    let s = c .before .before .before .before .before .before in
     joined (s .args .a) (s .args .b) (c .before .before .before .before .before .larger .ensures) (c .before .before .held-below .ensures) (c .before .held-below2 .ensures) (c .held-below3 .ensures)
 
-pub combined-spec : {M : Type 1} → statement M
-combined-spec =
+pub combined-by-level-spec : {M : Type 1} → statement M
+combined-by-level-spec =
     tie.close
     (tie.spec
-    combined-even-requires
-    returns
     larger-requires
     add-count
     held-below-requires
     held-below-requires-2
     held-below-requires-3
-    returns-2)
+    returns)

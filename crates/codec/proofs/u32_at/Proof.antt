@@ -1,0 +1,104 @@
+use Prim.Native.Nat.{ℕ, suc, _+_, _*_, _≤_}
+use mathlib.Core.Path.{_≡_}
+use mathlib.Core.List.{List}
+use native.Mathlib.Omega.{arith}
+use borrow.Author.Needs.{needs}
+use lib.ListN.{length, getD}
+use Rattle.codec.specs.Bytes.{numberAt}
+use Rattle.codec.proofs.Laws.{numberAt-cons, numberAt-none}
+use Rattle.codec.proofs.u32_at.Statement.{statement}
+use Rattle.codec.proofs.u32_at.Tie as tie
+
+-- a field of four bytes, byte by byte
+four : (s : List ℕ) (at : ℕ) → at + 4 ≤ length s
+    → getD s at 0 + getD s (at + 1) 0 * 256 + getD s (at + 2) 0 * 65536 + getD s (at + 3) 0 * 16777216 ≡ numberAt 4 s at
+four s at h =
+    let e : at + 1 ≡ suc at = omega arith in
+    let f : at + 2 ≡ suc (suc at) = omega arith in
+    let g : at + 3 ≡ suc (suc (suc at)) = omega arith in
+    rw (e, f, g)
+    (omega (
+      arith,
+      numberAt-cons 3 at s (omega arith),
+      numberAt-cons 2 (suc at) s (omega arith),
+      numberAt-cons 1 (suc (suc at)) s (omega arith),
+      numberAt-cons 0 (suc (suc (suc at))) s (omega arith),
+      numberAt-none (suc (suc (suc (suc at)))) s,
+    ))
+
+shared-slice-read-low : tie.Need-shared-slice-read-low
+shared-slice-read-low c = search needs
+
+cast-low : tie.Need-cast-low
+cast-low c = omega (arith, c .shared-slice-known .given (c .before .args .at))
+
+add-low : tie.Need-add-low
+add-low c = search needs
+
+shared-slice-read-low-2 : tie.Need-shared-slice-read-low-2
+shared-slice-read-low-2 c = search needs
+
+cast-low-2 : tie.Need-cast-low-2
+cast-low-2 c = omega (arith, c .shared-slice-known2 .given (c .before .before .args .at + 1))
+
+mul-low : tie.Need-mul-low
+mul-low c = omega (arith, c .shared-slice-known2 .given (c .before .before .args .at + 1))
+
+add-low-2 : tie.Need-add-low-2
+add-low-2 c = omega (arith, c .shared-slice-known2 .given (c .before .before .args .at), c .shared-slice-known2 .given (c .before .before .args .at + 1))
+
+add-result : tie.Need-add-result
+add-result c = search needs
+
+shared-slice-read-result : tie.Need-shared-slice-read-result
+shared-slice-read-result c = search needs
+
+cast-result : tie.Need-cast-result
+cast-result c = omega (arith, c .shared-slice-known3 .given (c .before .before .before .args .at + 2))
+
+mul-result : tie.Need-mul-result
+mul-result c = omega (arith, c .shared-slice-known3 .given (c .before .before .before .args .at + 2))
+
+add-result-2 : tie.Need-add-result-2
+add-result-2 c = omega (arith, c .shared-slice-known3 .given (c .before .before .before .args .at), c .shared-slice-known3 .given (c .before .before .before .args .at + 1), c .shared-slice-known3 .given (c .before .before .before .args .at + 2))
+
+add-result-3 : tie.Need-add-result-3
+add-result-3 c = search needs
+
+shared-slice-read-result-2 : tie.Need-shared-slice-read-result-2
+shared-slice-read-result-2 c = search needs
+
+cast-result-2 : tie.Need-cast-result-2
+cast-result-2 c = omega (arith, c .shared-slice-known4 .given (c .before .before .before .before .args .at + 3))
+
+mul-result-2 : tie.Need-mul-result-2
+mul-result-2 c = omega (arith, c .shared-slice-known4 .given (c .before .before .before .before .args .at + 3))
+
+add-result-4 : tie.Need-add-result-4
+add-result-4 c = omega (arith, c .shared-slice-known4 .given (c .before .before .before .before .args .at), c .shared-slice-known4 .given (c .before .before .before .before .args .at + 1), c .shared-slice-known4 .given (c .before .before .before .before .args .at + 2), c .shared-slice-known4 .given (c .before .before .before .before .args .at + 3))
+
+returns : tie.Need-returns
+returns c = let a = c .before .before .before .before in four (a .args .s .now) (a .args .at) (a .pre)
+
+pub u32-at-spec : {M : Type 1} → statement M
+u32-at-spec =
+    tie.close
+    (tie.spec
+    shared-slice-read-low
+    cast-low
+    add-low
+    shared-slice-read-low-2
+    cast-low-2
+    mul-low
+    add-low-2
+    add-result
+    shared-slice-read-result
+    cast-result
+    mul-result
+    add-result-2
+    add-result-3
+    shared-slice-read-result-2
+    cast-result-2
+    mul-result-2
+    add-result-4
+    returns)
