@@ -5,6 +5,7 @@ use record::Record;
 use refusal::Refusal;
 ghost use mathlib.Core.Path.{_≡_};
 ghost use mathlib.Core.Bool.{cond};
+ghost use mathlib.Core.Option.{some};
 ghost use Prim.Native.Nat.{_+_, _-_, _*_, _/_, _%_, _^_, _<_, _≤_};
 ghost use lib.Dec.{T};
 ghost use lib.ListN.{getD};
@@ -16,7 +17,7 @@ ghost use Rattle.refusal.specs.Outcome.{accepted, refused};
 ghost use Rattle.record.specs.Sound.{soundRecord};
 ghost use Rattle.record.specs.Section.{kept, meaning};
 ghost use Rattle.finish.specs.Figure.{millFigure, beyond};
-ghost use Rattle.finish.specs.Finish.{sumOutcome, figureOutcome, lineOutcome};
+ghost use Rattle.finish.specs.Finish.{lineOf, sumOutcome, figureOutcome, lineOutcome};
 ghost use Rattle.finish.specs.Answer.{sumAnswer, figureAnswer, lineAnswer};
 ghost use Rattle.finish.specs.Steps.{LookedUp, sumFor, FiniteSum, figureBy, lineBy};
 ghost use Rattle.finish.specs.Limbs.{InRange, keptOf, Bottom, wide, Digits, Limbs, Gap, Apart, raisedCarry, raisedTotal, Side, Moved, closestUp, unitsOf, pattern, made, hundredths};
@@ -413,11 +414,19 @@ fn look_up(table: &[u8], g: usize, key: u32) -> Lookup
 }
 
 // The sum of a sound record.
-fn record_sum(r: Record) -> SectionSum
+pub fn record_sum(r: Record) -> SectionSum
     requires { ⌜ T (soundRecord r) ⌝ }
     ensures { λ x. ⌜ x ≡ sumFor (kept (meaning r)) ⌝ }
 {
     nearest_double(r.top as u64, r.high, r.middle, r.low)
+}
+
+// The finished line of a sound record.
+pub fn record_line(r: Record) -> LineAnswer
+    requires { ⌜ T (soundRecord r) ⌝ }
+    ensures { λ x. ⌜ lineAnswer x ≡ lineOf (some (meaning r)) ⌝ }
+{
+    line_by(r.key, r.count, record_sum(r))
 }
 
 // The sum of section key in a table of g records.
@@ -443,7 +452,7 @@ pub fn line(table: &[u8], g: usize, key: u32) -> LineAnswer
     ensures { λ r. ⌜ lineAnswer r ≡ lineOutcome (now (table .entry)) g key ⌝ }
 {
     match look_up(table, g, key) {
-        Lookup::Found(r) => line_by(r.key, r.count, record_sum(r)),
+        Lookup::Found(r) => record_line(r),
         Lookup::Missing => LineAnswer::Refused(Refusal::SectionAbsent),
         Lookup::Unsound => LineAnswer::Refused(Refusal::TableNotSound),
     }

@@ -12,15 +12,16 @@ use lib.Ieee.Fits.{and-l, and-r, and-i}
 use lib.ListN.{length, take, drop, length-append, take-append-drop}
 use lib.Seq.{sets, sets-eq, length-take-le, drop-at}
 use Rattle.codec.specs.Cells.{cells, image}
-use Rattle.codec.proofs.Cells.{cells-add, cells-take, length-cells, image-append}
+use Rattle.codec.proofs.Cells.{cells-add, cells-take, image-append}
 use Rattle.codec.proofs.Laws.{AreBytes, numberAt-lt}
 use Rattle.record.specs.declared.Record.{Record}
 use Rattle.record.specs.Layout.{recordAt, records, decode, encode}
 use Rattle.record.specs.Keys.{keys, rising}
 use Rattle.record.specs.Sound.{soundRecord, soundRecords, sound}
 use Rattle.record.specs.Section.{Section, meaning, recordOf, sections, sectionBytes, written}
-use Rattle.record.proofs.Laws.{length-encode, decode-part, getD-records}
-use Rattle.record.proofs.Sound.{sound-parts, sound-made, sound-at}
+use Rattle.record.proofs.Laws.{length-encode, decode-part}
+use Rattle.record.proofs.Sound.{sound-parts, sound-made}
+use Rattle.record.proofs.Found.{sound-record-at}
 use Rattle.table.specs.Calls.{anyOf, overfull}
 use Rattle.table.proofs.Lists.{All, all-append, all-map}
 use Rattle.table.proofs.State.{record-meaning, length-sections, used-bytes}
@@ -92,16 +93,9 @@ below-all s (suc i) k h l =
     (all-append (λ (t : Section). t .key < k) (sections s i) (sectionIn s i ∷ [])
     (all-map (λ (t : Section). t .key < keyAt s i) (λ (t : Section). t .key < k) (λ t a. lt-trans a m) (sections s i) (p .below)) (m, tt))
 
--- ---- each record of a sound table
-module _ (s : List ℕ) (i a : ℕ) (h : T (sound s i)) (l : a < i) where
-  pub sound-in : T (soundRecord (recordAt s (a * 64)))
-  sound-in =
-      let p = sound-parts s i h in
-      subst (λ (r : Record). T (soundRecord r)) (getD-records s i (p .0) a (recordAt s 0) l)
-      (sound-at (records s i) a (recordAt s 0) (rw length-cells l) (p .3))
-
-  pub record-in : recordAt s (a * 64) ≡ recordOf (sectionIn s a)
-  record-in = sym (record-meaning (recordAt s (a * 64)) sound-in)
+-- each record of a sound table is the one of its section
+pub record-in : (s : List ℕ) (i a : ℕ) → T (sound s i) → a < i → recordAt s (a * 64) ≡ recordOf (sectionIn s a)
+record-in s i a h l = sym (record-meaning (recordAt s (a * 64)) (sound-record-at s i a h l))
 
 -- its sections written over a sound table change no byte
 pub written-self : (s : List ℕ) (g : ℕ) → T (sound s g) → AreBytes s → written (sections s g) s ≡ s

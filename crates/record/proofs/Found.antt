@@ -44,6 +44,13 @@ find-none k (r ∷ rs) e = by (eqb (r .key) k) refl e (find-none k rs)
     by true q f ih = let z : _≡_ {A = ℕ} 0 1 = cc in absurd (lt-irrefl 0 (omega arith))
     by false q f ih = rw (ne-eqb k (r .key) (λ g. eqb-false (r .key) k q (sym g))) (ih f)
 
+-- each record of a sound table is sound
+pub sound-record-at : (s : List ℕ) (g i : ℕ) → T (sound s g) → i < g → T (soundRecord (recordAt s (i * 64)))
+sound-record-at s g i h l =
+    let p = sound-parts s g h in
+    let d : Record = recordAt s (i * 64) in
+    subst (λ (r : Record). T (soundRecord r)) (getD-records s g (p .0) i d l) (sound-at (records s g) i d (omega (arith, length-cells 64 decode g s)) (p .3))
+
 module _ (s : List ℕ) (g k i : ℕ) (h : T (sound s g)) where
   -- the record at the place of a key
   pub found : At i ≡ place k (keys (records s g)) → (i * 64 + 64 ≤ length s) × (find k (sections s g) ≡ some (meaning (recordAt s (i * 64)))) × T (soundRecord (recordAt s (i * 64)))
@@ -52,11 +59,10 @@ module _ (s : List ℕ) (g k i : ℕ) (h : T (sound s g)) where
       let w = place-is-at k (keys (records s g)) i (p .2) e in
       let n = length-keys s g in
       let l : i < g = omega arith in
-      let d : Record = recordAt s (i * 64) in
-      let r = getD-records s g (p .0) i d l in (
+      let d : Record = recordAt s (i * 64) in (
         omega arith,
-        find-at k (records s g) i d (p .2) (w .0) (w .1) ∙ ap (λ (x : Record). some (meaning x)) r,
-        subst (λ (x : Record). T (soundRecord x)) r (sound-at (records s g) i d (omega (arith, length-cells 64 decode g s)) (p .3)),
+        find-at k (records s g) i d (p .2) (w .0) (w .1) ∙ ap (λ (x : Record). some (meaning x)) (getD-records s g (p .0) i d l),
+        sound-record-at s g i h l,
       )
 
   pub missing : Gap i ≡ place k (keys (records s g)) → find k (sections s g) ≡ none

@@ -1,28 +1,26 @@
 -- A section's line by its finished line, and the sections of a sound table in their places.
-use Prim.Native.Nat.{ℕ, zero, suc, _+_, _*_, _<_, _≤_}
+use Prim.Native.Nat.{ℕ, suc, _+_, _*_, _<_, _≤_}
 use mathlib.Core.Path.{_≡_, refl, sym, ap, _∙_}
 use mathlib.Core.Bool.{Bool, true, false, cond}
 use mathlib.Core.List.{List, [], _∷_, _++_, append-assoc, append-nil}
-use mathlib.Core.Option.{Option, some}
+use mathlib.Core.Option.{some}
 use native.Mathlib.Omega.{arith}
 use lib.Dec.{T}
 use lib.ListN.{length, getD, take, List·getD-map}
 use lib.Seq.{take-suc}
 use lib.Ieee.Scale.{finite}
-use Rattle.codec.specs.Bytes.{numberAt}
 use Rattle.codec.specs.Cells.{image}
 use Rattle.codec.proofs.Cells.{getD-cells}
-use Rattle.refusal.specs.Outcome.{Outcome, accepted, refused}
+use Rattle.refusal.specs.Outcome.{accepted, refused}
 use Rattle.record.specs.Layout.{decode, recordAt, records}
-use Rattle.record.specs.Section.{Section, kept, meaning, sections, find}
+use Rattle.record.specs.Section.{Section, kept, meaning, sections}
 use Rattle.record.specs.Sound.{sound}
 use Rattle.record.proofs.Laws.{decode-part}
 use Rattle.record.proofs.Sound.{sound-parts}
-use Rattle.table.proofs.Lookup.{Above, Rising, keysIn, rising-tail, find-head, find-tail}
-use Rattle.table.proofs.State.{length-sections, sound-rising}
+use Rattle.table.proofs.State.{length-sections}
 use Rattle.finish.specs.Sum.{tooLarge, nearestDouble}
 use Rattle.finish.specs.Figure.{beyond}
-use Rattle.finish.specs.Finish.{sumOf, figureFor, lineOf, lineFor, finishing}
+use Rattle.finish.specs.Finish.{sumOf, figureFor, lineOf, lineFor}
 use Rattle.finish.specs.declared.FinishedLine.{FinishedLine}
 use Rattle.finish.proofs.Outcomes.{never}
 use Rattle.finish.proofs.Sums.{nearest-finite}
@@ -57,18 +55,6 @@ unfinished s n e = by (tooLarge (kept s)) (beyond (figureFor s)) e
 
 -- ---- a section in its place
 
-above-at : (k : ℕ) (ts : List Section) → Above k (keysIn ts) → (i : ℕ) (d : Section) → i < length ts → k < getD ts i d .key
-above-at k [] a i d h = absurd (omega arith)
-above-at k (t ∷ ts) a zero d h = a .0
-above-at k (t ∷ ts) a (suc i) d h = let l = above-at (t .key) ts (a .1) i d (omega arith) in omega arith
-
-find-at : (ts : List Section) → Rising (keysIn ts) → (i : ℕ) (d : Section) → i < length ts → find (getD ts i d .key) ts ≡ some (getD ts i d)
-find-at [] r i d h = absurd (omega arith)
-find-at (t ∷ ts) r zero d h = find-head (t .key) t ts refl
-find-at (t ∷ ts) r (suc i) d h =
-    let l = above-at (t .key) ts r i d (omega arith) in
-    find-tail (getD ts i d .key) t ts (λ e. omega arith) ∙ find-at ts (rising-tail (t .key) (keysIn ts) r) i d (omega arith)
-
 image-snoc : (ts : List Section) (t : Section) → image lineText (ts ++ t ∷ []) ≡ image lineText ts ++ lineText t
 unfolding image
 image-snoc [] t = append-nil (lineText t)
@@ -85,17 +71,6 @@ module _ (s : List ℕ) (g i : ℕ) (ok : T (sound s g)) (h : i < g) where
   section-at =
       List·getD-map meaning (records s g) i (recordAt s (i * 64))
       ∙ ap meaning (getD-cells 64 decode i g s (recordAt s (i * 64)) h ∙ decode-part s (i * 64) inside)
-
-  found : find (numberAt 4 s (i * 64)) (sections s g) ≡ some here
-  found = rw section-at at (find-at (sections s g) (sound-rising s g ok) i here (omega (arith, length-sections s g)))
-
-  -- finishing by its key
-  pub finishing-here : {A : Type 0} (f : Option Section → Outcome A) → finishing f s g (numberAt 4 s (i * 64)) ≡ f (some here)
-  finishing-here f = rw (true-is (sound s g) ok, found)
-    where
-      true-is : (b : Bool) → T b → b ≡ true
-      true-is true t = refl
-      true-is false t = absurd t
 
   -- one more line
   pub more-lines : image lineText (take (suc i) (sections s g)) ≡ image lineText (take i (sections s g)) ++ lineText here

@@ -9,9 +9,8 @@ ghost use lib.Ieee.{binary64, toBits};
 ghost use lib.Ieee.Scale.{finite};
 ghost use Rattle.codec.specs.Cells.{image};
 ghost use Rattle.refusal.specs.Outcome.{accepted, refused};
-ghost use Rattle.record.specs.Layout.{recordAt};
 ghost use Rattle.record.specs.Section.{meaning, sections};
-ghost use Rattle.record.specs.Sound.{sound};
+ghost use Rattle.record.specs.Sound.{sound, soundRecord};
 ghost use Rattle.finish.specs.Answer.{sumAnswer};
 ghost use Rattle.finish.specs.Steps.{FiniteSum};
 ghost use Rattle.report.specs.Numerals.{digit, digits, decimal, integer, hexadecimal};
@@ -22,6 +21,7 @@ use finish::FinishedLine;
 use finish::LineAnswer;
 use finish::SectionSum;
 use patch::Reading;
+use record::Record;
 use table::TableAnswer;
 
 // What printing into a lent buffer answers: the text's length, or that the buffer is shorter.
@@ -195,18 +195,16 @@ fn print_unfinished(text: &mut [u8], at: usize, key: u32, count: u32, sum: Secti
     }
 }
 
-// The line of section i of a sound table.
-fn print_section(text: &mut [u8], at: usize, table: &[u8], g: usize, i: usize) -> usize
-    requires { ⌜ (at + 58 ≤ length (now text)) × (i < g) ⌝ }
-    requires { ⌜ T (sound (now table) g) ⌝ }
-    ensures { λ r. ⌜ Continued (now (text .entry)) at (lineText (meaning (recordAt (now (table .entry)) (i * 64)))) 58 (now (text .exit)) r ⌝ }
+// The line of a sound record's section.
+fn print_section(text: &mut [u8], at: usize, r: Record) -> usize
+    requires { ⌜ at + 58 ≤ length (now text) ⌝ }
+    requires { ⌜ T (soundRecord r) ⌝ }
+    ensures { λ e. ⌜ Continued (now (text .entry)) at (lineText (meaning r)) 58 (now (text .exit)) e ⌝ }
 {
-    let key = codec::u32_at(table, i * 64);
-    match finish::line(table, g, key) {
+    match finish::record_line(r) {
         LineAnswer::Line(line) => print_line(text, at, line),
         LineAnswer::Refused(_) => {
-            let count = codec::u32_at(table, i * 64 + 4);
-            print_unfinished(text, at, key, count, finish::sum(table, g, key))
+            print_unfinished(text, at, r.key, r.count, finish::record_sum(r))
         }
     }
 }
@@ -220,7 +218,7 @@ fn print_sections(text: &mut [u8], at: usize, table: &[u8], g: usize) -> usize
     let mut end = at;
     let mut i = 0;
     while i < g {
-        end = print_section(text, end, table, g, i);
+        end = print_section(text, end, record::get(table, i));
         i += 1;
     }
     end

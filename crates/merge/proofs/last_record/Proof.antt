@@ -7,7 +7,8 @@ use Rattle.record.specs.declared.Record.{Record}
 use Rattle.record.specs.Section.{meaning, recordOf}
 use Rattle.table.specs.Combine.{combine}
 use Rattle.merge.specs.Steps.{lastSection}
-use Rattle.merge.proofs.State.{sound-in, record-in}
+use Rattle.record.proofs.Found.{sound-record-at}
+use Rattle.merge.proofs.State.{record-in}
 use Rattle.merge.proofs.Walk.{of-second, of-first, of-both, count-both}
 use borrow.Author.Needs.{needs}
 use Rattle.merge.proofs.last_record.Statement.{statement}
@@ -52,9 +53,9 @@ combined-requires c κs =
     let n = c .before .before .if2 .left in
     let k = ltb-false 4294967295 (lastSection (a .first .now) (a .i) (a .second .now) (a .j) (a .e) .count) (s .pre .1 .1 .1) in
     rw (c .before .get3 .ensures, c .get4 .ensures) (
-      sound-in (a .first .now) (a .i) (a .e .i) (s .pre .1 .0) (lt-of-le-ne (s .pre .0 .first) m),
+      sound-record-at (a .first .now) (a .i) (a .e .i) (s .pre .1 .0) (lt-of-le-ne (s .pre .0 .first) m),
       (
-        sound-in (a .second .now) (a .j) (a .e .j) (s .pre .1 .1 .0) (lt-of-le-ne (s .pre .0 .second) n),
+        sound-record-at (a .second .now) (a .j) (a .e .j) (s .pre .1 .1 .0) (lt-of-le-ne (s .pre .0 .second) n),
         omega (arith, count-both (a .first .now) (a .second .now) (a .i) (a .j) (a .e) m n),
       ),
     )

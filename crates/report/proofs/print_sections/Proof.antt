@@ -1,6 +1,6 @@
 -- `report::print_sections`: the text holds the lines of the sections passed.
 use Prim.Native.Nat.{ℕ, _+_, _*_, _-_, _≤_, _<_}
-use mathlib.Core.Path.{_≡_, refl, _∙_}
+use mathlib.Core.Path.{_≡_, refl, sym, _∙_, subst}
 use mathlib.Core.List.{List}
 use native.Mathlib.Omega.{arith}
 use native.Mathlib.Numerals.{add-one}
@@ -10,12 +10,14 @@ use lib.Seq.{take-all}
 use Rattle.codec.specs.Cells.{image}
 use Rattle.record.specs.Section.{sections, meaning}
 use Rattle.record.specs.Layout.{recordAt}
-use Rattle.record.specs.Sound.{sound}
+use Rattle.record.specs.Sound.{sound, soundRecord}
+use Rattle.record.specs.declared.Record.{Record}
+use Rattle.record.proofs.Found.{sound-record-at}
 use Rattle.table.proofs.State.{length-sections}
 use Rattle.report.specs.Text.{lineText}
 use Rattle.report.specs.Steps.{Continued}
 use Rattle.report.proofs.Texts.{then, longer, nothing}
-use Rattle.report.proofs.Lines.{more-lines}
+use Rattle.report.proofs.Lines.{inside, more-lines}
 use Rattle.report.proofs.print_sections.Statement.{statement}
 use Rattle.report.proofs.print_sections.Tie as tie
 
@@ -41,8 +43,13 @@ loop-holds : tie.Need-loop-holds Inv-loop μ-loop
 unfolding image
 loop-holds c = (omega arith, refl, nothing (c .before .before .args .text .now) (c .before .before .args .at))
 
+get-requires : tie.Need-get-requires Inv-loop μ-loop
+get-requires c κs = let s = c .before .before .before .before .before in inside (s .args .table .now) (s .args .g) (c .before .before .loop .i) (s .pre .1) (omega arith)
+
 print-section-requires : tie.Need-print-section-requires Inv-loop μ-loop
-print-section-requires c κs = ((omega arith, omega arith), c .before .before .before .before .before .pre .1)
+print-section-requires c κs =
+    let s = c .before .before .before .before .before .before in
+    (omega arith, subst (λ (r : Record). T (soundRecord r)) (sym (c .get .ensures)) (sound-record-at (s .args .table .now) (s .args .g) (c .before .before .before .loop .i) (s .pre .1) (omega arith)))
 
 add-i : tie.Need-add-i Inv-loop μ-loop
 add-i c = omega arith
@@ -52,10 +59,11 @@ loop-less c = omega arith
 
 loop-again : tie.Need-loop-again Inv-loop μ-loop
 loop-again c =
-    let a = c .before .before .before .before .before .before .before .before .args in
-    let l = c .before .before .before .before .before .loop in
+    let s = c .before .before .before .before .before .before .before .before .before in
+    let a = s .args in
+    let l = c .before .before .before .before .before .before .loop in
     let p = c .before .before .print-section in
-    turn (a .text .now) (a .at) (a .table .now) (a .g) (l .text) (l .end) (l .i) (p .last .0) (p .result) (c .before .before .before .before .before .before .before .before .pre .1) (l .inv) (omega arith) (p .kept .0) (p .ensures)
+    turn (a .text .now) (a .at) (a .table .now) (a .g) (l .text) (l .end) (l .i) (p .last .0) (p .result) (s .pre .1) (l .inv) (omega arith) (p .kept .0) (rw (c .before .before .before .get .ensures) at (p .ensures))
 
 same-length : tie.Need-same-length Inv-loop μ-loop
 same-length c = c .before .loop .inv .1
@@ -73,6 +81,7 @@ print-sections-spec =
     Inv-loop
     μ-loop
     loop-holds
+    get-requires
     print-section-requires
     add-i
     loop-less
