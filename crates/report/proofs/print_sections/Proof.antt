@@ -44,7 +44,7 @@ unfolding image
 loop-holds c = (omega arith, refl, nothing (c .before .before .args .text .now) (c .before .before .args .at))
 
 get-requires : tie.Need-get-requires Inv-loop μ-loop
-get-requires c κs = let s = c .before .before .before .before .before in inside (s .args .table .now) (s .args .g) (c .before .before .loop .i) (s .pre .1) (omega arith)
+get-requires c κs = let s = c .before .before .before .before .before in omega (arith, inside (s .args .table .now) (s .args .g) (c .before .before .loop .i) (s .pre .1) (omega arith))
 
 print-section-requires : tie.Need-print-section-requires Inv-loop μ-loop
 print-section-requires c κs =
