@@ -1,7 +1,9 @@
 use Prim.Native.Nat.{_+_, _-_}
 use mathlib.Core.Path.{_≡_}
 use native.Mathlib.Omega.{arith}
+use mathlib.Core.List.{[], _∷_}
 use lib.IntN.{natAbs}
+use Rattle.report.specs.Steps.{Continued}
 use Rattle.report.proofs.Signs.{negative, positive}
 use Rattle.report.proofs.Texts.{then, longer}
 use borrow.Author.Needs.{needs}
@@ -34,7 +36,9 @@ returns c =
     let a = c .before .before .before .before .before .before .before .before .before .before in
     let h = negative (a .args .z) (a .fits .z) (c .before .before .before .before .before .before .before .before .if1 .taken) in
     let e : natAbs (a .args .z) - 1 + 1 ≡ natAbs (a .args .z) = omega (arith, h .least) in
-    rw (h .text) (then (c .before .before .before .before .before .before .print-byte .ensures) (rw (h .turned, e) at (c .before .before .print-decimal .ensures)))
+    let b = c .before .before .before .before .before .before .print-byte in
+    let sign : Continued (a .args .text .now) (a .args .at) (0x2D ∷ []) 1 (b .last .0) (b .result) = b .ensures in
+    rw (h .text) (then sign (rw (h .turned, e) at (c .before .before .print-decimal .ensures)))
 
 cast-print-decimal-2 : tie.Need-cast-print-decimal-2
 cast-print-decimal-2 c =
