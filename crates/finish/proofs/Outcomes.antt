@@ -15,7 +15,7 @@ use Rattle.record.specs.Sound.{sound, soundRecord}
 use Rattle.record.specs.Section.{Section, kept, meaning, sections, find}
 use Rattle.finish.specs.Sum.{nearestDouble, tooLarge}
 use Rattle.finish.specs.Figure.{beyond}
-use Rattle.finish.specs.Finish.{sumOf, figureFor, figureOf, lineFor, lineOf, finishing, sumOutcome, figureOutcome}
+use Rattle.finish.specs.Finish.{sumOf, figureFor, figureOf, lineFor, lineOf, finishing, sumOutcome}
 use Rattle.finish.specs.Answer.{sumAnswer}
 use Rattle.finish.specs.Steps.{LookedUp, sumFor, FiniteSum, figureBy, lineBy}
 use Rattle.record.specs.declared.Record.{Record}
@@ -66,19 +66,12 @@ finite-outcome (Finite x) s g k e = by (sound s g) e
 
 -- ---- the figure
 
-figure-by : (o : Option Section) → figureOf o ≡ figureBy (sumOf o)
+pub figure-by : (o : Option Section) → figureOf o ≡ figureBy (sumOf o)
 figure-by none = refl
 figure-by (some s) = by (tooLarge (kept s))
   where
     by : (b : Bool) → cond b (refused 14) (outcome (ground 15 (beyond (figureFor s)) ∷ []) (figureFor s)) ≡ figureBy (cond b (refused 14) (accepted (nearestDouble (kept s))))
     by true = refl
-    by false = refl
-
-pub figure-outcome : (s : List ℕ) (g k : ℕ) → figureOutcome s g k ≡ figureBy (sumOutcome s g k)
-figure-outcome s g k = by (sound s g)
-  where
-    by : (b : Bool) → cond b (figureOf (find k (sections s g))) (refused 7) ≡ figureBy (cond b (sumOf (find k (sections s g))) (refused 7))
-    by true = figure-by (find k (sections s g))
     by false = refl
 
 -- ---- the line
