@@ -9,7 +9,8 @@ use Rattle.refusal.specs.Outcome.{Outcome, refused}
 use Rattle.level.specs.Double.{finite}
 use Rattle.patch.specs.Rows.{columnsFit}
 use Rattle.record.specs.Sound.{sound}
-use Rattle.table.specs.Calls.{anyOf, overfull, leaves, addSections, addGrounds, addOutcome, addLeaves}
+use Rattle.table.specs.Calls.{overfull, leaves, addSections, addGrounds, addOutcome, addLeaves}
+use Rattle.lists.specs.Lists.{anyOf}
 use Rattle.add.specs.Steps.{columnBits, Settles}
 use Rattle.add.proofs.Columns.{any-bits}
 

@@ -13,18 +13,14 @@ use Rattle.codec.proofs.Cells.{length-cells}
 use Rattle.patch.specs.Rows.{Row, columnRows, rowsOf}
 use Rattle.record.specs.Section.{Section, find}
 use Rattle.table.specs.Combine.{ofRow, combine, absorb, added}
-use Rattle.table.specs.Calls.{anyOf, overfull}
-use Rattle.table.proofs.Lists.{All}
+use Rattle.table.specs.Calls.{overfull}
+use Rattle.lists.specs.Lists.{anyOf, occurrences}
+use Rattle.lists.proofs.Booleans.{same-test}
+use Rattle.lists.proofs.All.{All}
 use Rattle.table.proofs.Lookup.{Rising, keysIn, rising-tail, find-nil, find-head, find-tail, find-above, absorb-cases, absorb-rising, find-absorb, join, only, only-is, only-not, join-none}
-use Rattle.add.specs.Steps.{columnKeys, occurrences, countOf, countIn, passes}
-use Rattle.add.proofs.Any.{occurrences-le}
+use Rattle.add.specs.Steps.{columnKeys, countOf, countIn, passes}
+use Rattle.lists.proofs.Scanning.{occurrences-le}
 use Rattle.add.proofs.Columns.{row-keys}
-
--- two tests of which each gives the other are one
-same-test : (a b : Bool) → (a ≡ true → b ≡ true) → (b ≡ true → a ≡ true) → a ≡ b
-same-test true b f g = sym (f refl)
-same-test false true f g = g refl
-same-test false false f g = refl
 
 -- ---- a test of sections by number and row count
 module _ (p : ℕ → ℕ → Bool) where

@@ -9,8 +9,9 @@ use lib.ListN.{length}
 use Rattle.refusal.specs.Outcome.{Outcome, accepted, refused, Ground, outcome}
 use Rattle.patch.specs.Rows.{Row, rowsOf}
 use Rattle.record.specs.Section.{Section, written}
-use Rattle.table.specs.Calls.{anyOf, addGrounds, addOutcome, mergeGrounds, mergeOutcome, leaves}
-use Rattle.table.proofs.Lists.{All}
+use Rattle.table.specs.Calls.{addGrounds, addOutcome, mergeGrounds, mergeOutcome, leaves}
+use Rattle.lists.specs.Lists.{anyOf}
+use Rattle.lists.proofs.All.{All}
 use Rattle.table.proofs.Lookup.{merged-length}
 use Rattle.table.proofs.Bytes.{written-over}
 use Rattle.history.specs.Rows.{bitsOf, keysOf}

@@ -12,8 +12,8 @@ use Rattle.refusal.specs.Outcome.{Outcome}
 use Rattle.record.specs.Sound.{sound}
 use Rattle.record.specs.Section.{Section, sectionBytes, find}
 use Rattle.finish.specs.Finish.{finishing, sumOf, figureOf, lineOf}
-use Rattle.table.specs.Calls.{anyOf}
-use Rattle.table.proofs.Lists.{All, any-false}
+use Rattle.lists.specs.Lists.{anyOf}
+use Rattle.lists.proofs.All.{All, any-false}
 use Rattle.table.proofs.Bytes.{length-sectionBytes}
 use Rattle.history.specs.Rows.{SameRows, bitsOf, keysOf}
 use Rattle.history.specs.Canonical.{sectionOf, sectionIf, canonical}

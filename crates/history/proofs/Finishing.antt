@@ -11,7 +11,7 @@ use Rattle.record.specs.Section.{Section, sections, find, kept}
 use Rattle.finish.specs.Finish.{finishing, sumOf, figureOf, lineOf, figureFor}
 use Rattle.finish.specs.Sum.{tooLarge}
 use Rattle.finish.specs.Figure.{beyond}
-use Rattle.table.proofs.Lists.{All}
+use Rattle.lists.proofs.All.{All}
 use Rattle.history.specs.Run.{isRefusal}
 
 pub finishing-found : {A : Type 0} (f : Option Section → Outcome A) (s : List ℕ) (g k : ℕ) → sound s g ≡ true

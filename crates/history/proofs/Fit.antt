@@ -15,8 +15,10 @@ use Rattle.patch.specs.Rows.{Row, rowsFrom, columnRows, rowsOf}
 use Rattle.record.specs.Layout.{capacity}
 use Rattle.record.specs.Sound.{sound}
 use Rattle.record.specs.Section.{Section, sections, written}
-use Rattle.table.specs.Calls.{anyOf, overfull}
-use Rattle.table.proofs.Lists.{All, all-append, all-zip, any-false, any-map}
+use Rattle.table.specs.Calls.{overfull}
+use Rattle.lists.specs.Lists.{anyOf}
+use Rattle.lists.proofs.Booleans.{and-true}
+use Rattle.lists.proofs.All.{All, all-append, all-zip, any-false, any-map}
 use Rattle.table.proofs.Proper.{Proper, added-proper}
 use Rattle.table.proofs.Bytes.{Fits, sections-written, length-written, sound-written}
 use Rattle.history.specs.Rows.{bitsOf, keysOf}
@@ -84,10 +86,6 @@ accepted-none (c ∷ cs) x y e = go (accepted-none cs x y) (c .holds) refl e
         → (b : Bool) → c .holds ≡ b → cond b (refused (c .number)) (outcome cs x) ≡ accepted y → All (λ (d : Ground). d .holds ≡ false) (c ∷ cs) × (x ≡ y)
     go ih true q e = let z : _≡_ {A = ℕ} 0 1 = cc in absurd (omega arith)
     go ih false q e = let w = ih e in ((q, w .0), w .1)
-
-and-true : (a b : Bool) → (a && b) ≡ true → (a ≡ true) × (b ≡ true)
-and-true true b e = (refl, e)
-and-true false b e = let z : _≡_ {A = ℕ} 0 1 = cc in absurd (omega arith)
 
 are-bytes : (s : List ℕ) → areBytes s ≡ true → AreBytes s
 are-bytes [] e i = omega arith

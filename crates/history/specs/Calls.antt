@@ -9,7 +9,7 @@ use Rattle.refusal.specs.Outcome.{Outcome, accepted, refused, Ground, ground, o
 use Rattle.level.specs.Double.{finite}
 use Rattle.patch.specs.Rows.{Row, rowsOf, columnsFit}
 use Rattle.record.specs.Layout.{capacity}
-use Rattle.table.specs.Calls.{anyOf}
+use Rattle.lists.specs.Lists.{anyOf}
 use Rattle.history.specs.Rows.{bitsOf, keysOf}
 
 -- a call on tables named by numbers: an add of two columns, with the length of the lent work buffer; a merge of table j into a different table i;

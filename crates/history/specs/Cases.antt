@@ -17,7 +17,8 @@ use Rattle.record.specs.Layout.{encode, decode}
 use Rattle.record.specs.Keys.{rising}
 use Rattle.record.specs.Sound.{soundHeld, isZero, soundRecord, soundRecords, sound}
 use Rattle.table.specs.Combine.{ofRow, levelOf, combine, absorb, merged, added}
-use Rattle.table.specs.Calls.{anyOf, addGrounds, mergeGrounds}
+use Rattle.table.specs.Calls.{addGrounds, mergeGrounds}
+use Rattle.lists.specs.Lists.{anyOf}
 use Rattle.history.specs.Rows.{bitsOf, insertKey, keysOf}
 use Rattle.history.specs.Canonical.{sectionOf, canonical}
 use Rattle.history.specs.Calls.{Call, add, merge, sum, figure, line, tooManyRows, tooManyKeys, addRowsGrounds, mergeRowsGrounds, stepRows, rowsAfter}

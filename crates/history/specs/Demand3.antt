@@ -11,7 +11,7 @@ use Rattle.patch.specs.Rows.{Row}
 use Rattle.record.specs.Sound.{sound}
 use Rattle.record.specs.Section.{Section, sections, written, find, kept}
 use Rattle.finish.specs.Finish.{sumOf, figureOf, lineOf}
-use Rattle.table.specs.Calls.{anyOf}
+use Rattle.lists.specs.Lists.{anyOf}
 use Rattle.history.specs.Rows.{SameRows, bitsOf, largest}
 use Rattle.history.specs.Canonical.{canonical}
 use Rattle.history.specs.Calls.{Call, lendsBytes, rowsAfter}

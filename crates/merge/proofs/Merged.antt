@@ -4,7 +4,7 @@ use mathlib.Core.Path.{_≡_, refl, _∙_, ap, subst}
 use mathlib.Core.List.{List, [], _∷_, _++_}
 use Rattle.record.specs.Section.{Section}
 use Rattle.table.specs.Combine.{combine, absorb, merged}
-use Rattle.table.proofs.Lists.{All}
+use Rattle.lists.proofs.All.{All}
 use Rattle.table.proofs.Lookup.{absorb-cases, absorb-less, absorb-same, absorb-more}
 
 -- all keys are below k

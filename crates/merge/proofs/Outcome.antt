@@ -11,7 +11,8 @@ use Rattle.refusal.specs.Outcome.{Outcome, accepted, refused, ground, outcome}
 use Rattle.record.specs.Layout.{capacity}
 use Rattle.record.specs.Sound.{sound}
 use Rattle.record.specs.Section.{written}
-use Rattle.table.specs.Calls.{leaves, mergeLeaves, anyOf, overfull, mergeSections, mergeGrounds, mergeOutcome}
+use Rattle.table.specs.Calls.{leaves, mergeLeaves, overfull, mergeSections, mergeGrounds, mergeOutcome}
+use Rattle.lists.specs.Lists.{anyOf}
 
 module _ (s : List ℕ) (g : ℕ) (s′ : List ℕ) (g′ : ℕ) where
   pub not-sound₁ : sound s g ≡ false → refused 7 ≡ mergeOutcome s g s′ g′

@@ -22,8 +22,9 @@ use Rattle.record.specs.Section.{Section, meaning, recordOf, sections, sectionB
 use Rattle.record.proofs.Laws.{length-encode, decode-part}
 use Rattle.record.proofs.Sound.{sound-parts, sound-made}
 use Rattle.record.proofs.Found.{sound-record-at}
-use Rattle.table.specs.Calls.{anyOf, overfull}
-use Rattle.table.proofs.Lists.{All, all-append, all-map}
+use Rattle.table.specs.Calls.{overfull}
+use Rattle.lists.specs.Lists.{anyOf}
+use Rattle.lists.proofs.All.{All, all-append, all-map}
 use Rattle.table.proofs.State.{record-meaning, length-sections, used-bytes}
 use Rattle.merge.specs.Steps.{keyAt, countAt, sectionIn}
 use Rattle.merge.proofs.Merged.{Below}

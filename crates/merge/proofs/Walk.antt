@@ -13,7 +13,8 @@ use Rattle.record.specs.Sound.{sound}
 use Rattle.record.specs.Section.{Section, sections}
 use Rattle.record.proofs.Sound.{sound-parts}
 use Rattle.table.specs.Combine.{combine, merged}
-use Rattle.table.specs.Calls.{anyOf, overfull, mergeSections}
+use Rattle.table.specs.Calls.{overfull, mergeSections}
+use Rattle.lists.specs.Lists.{anyOf}
 use Rattle.merge.specs.declared.Ends.{Ends}
 use Rattle.merge.specs.Steps.{keyAt, countAt, sectionIn, Within, lastSection, Back}
 use Rattle.merge.proofs.Merged.{Below, last-first, last-second, last-both}

@@ -12,9 +12,10 @@ use Rattle.record.specs.declared.Record.{Record}
 use Rattle.record.specs.Layout.{encode}
 use Rattle.record.specs.Sound.{sound}
 use Rattle.record.specs.Section.{Section, sections, recordOf, written}
-use Rattle.table.proofs.Lists.{or-false}
+use Rattle.lists.proofs.Booleans.{or-false}
 use Rattle.table.specs.Combine.{merged}
-use Rattle.table.specs.Calls.{anyOf, overfull, mergeSections}
+use Rattle.table.specs.Calls.{overfull, mergeSections}
+use Rattle.lists.specs.Lists.{anyOf}
 use Rattle.table.proofs.Lookup.{merged-length}
 use Rattle.merge.specs.declared.Ends.{Ends}
 use Rattle.merge.specs.Steps.{lastSection, Back}

@@ -12,7 +12,8 @@ use Rattle.record.specs.Keys.{rising}
 use Rattle.record.specs.Sound.{soundHeld, isZero, soundRecord, soundRecords, sound}
 use Rattle.refusal.specs.Outcome.{accepted, refused}
 use Rattle.table.specs.Combine.{levelOf, combine, absorb, merged}
-use Rattle.table.specs.Calls.{anyOf, mergeGrounds, mergeOutcome, mergeLeaves}
+use Rattle.table.specs.Calls.{mergeGrounds, mergeOutcome, mergeLeaves}
+use Rattle.lists.specs.Lists.{anyOf}
 
 abbrev nothing : Held
 nothing = record { residue = 0; carry = pos 0 }

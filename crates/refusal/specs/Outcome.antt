@@ -1,7 +1,8 @@
 -- The outcome of a call: the values of an accepted call, or a refusal's number.
 use Prim.Native.Nat.{ℕ}
-use mathlib.Core.Bool.{Bool, cond}
+use mathlib.Core.Bool.{Bool, false, cond, _||_}
 use mathlib.Core.List.{List, [], _∷_}
+use lib.Dec.{eqb}
 
 -- the values of an accepted call, or a refused one's number
 pub data Outcome (A : Type 0) : Type 0 where
@@ -21,3 +22,18 @@ ground n b = record { number = n; holds = b }
 abbrev pub outcome : {A : Type 0} → List Ground → A → Outcome A
 outcome [] x = accepted x
 outcome (c ∷ cs) x = cond (c .holds) (refused (c .number)) (outcome cs x)
+
+-- the condition of the ground with number n; a list without that number has none
+abbrev pub condition : ℕ → List Ground → Bool
+condition n [] = false
+condition n (c ∷ cs) = cond (eqb n (c .number)) (c .holds) (condition n cs)
+
+-- the outcome is refusal n
+unfoldable pub isRefusal : {A : Type 0} → ℕ → Outcome A → Bool
+isRefusal n (accepted x) = false
+isRefusal n (refused m) = eqb n m
+
+-- one of the grounds has number n
+abbrev pub isGround : ℕ → List Ground → Bool
+isGround n [] = false
+isGround n (c ∷ cs) = eqb n (c .number) || isGround n cs

@@ -16,7 +16,7 @@ use Rattle.record.specs.Layout.{capacity}
 use Rattle.record.specs.Section.{Section, sections, written}
 use Rattle.record.specs.Sound.{sound}
 use Rattle.table.specs.Calls.{overfull, addSections, addGrounds, addOutcome, addLeaves, leaves}
-use Rattle.table.proofs.Lists.{All, all-zip, any-false}
+use Rattle.lists.proofs.All.{All, all-zip, any-false}
 use Rattle.table.proofs.Lookup.{Rising, keysIn}
 use Rattle.table.proofs.Proper.{Proper, added-proper}
 use Rattle.table.proofs.Bytes.{Fits, sections-written, sound-written}

@@ -16,7 +16,8 @@ use Rattle.record.specs.Section.{kept}
 use Rattle.finish.specs.Sum.{nearestDouble, tooLarge}
 use Rattle.finish.specs.Figure.{millFigure, beyond}
 use Rattle.table.specs.Combine.{ofRow, levelOf, combine, absorb, added}
-use Rattle.table.specs.Calls.{anyOf, addGrounds}
+use Rattle.table.specs.Calls.{addGrounds}
+use Rattle.lists.specs.Lists.{anyOf}
 use Rattle.report.specs.Numerals.{digit, digits, decimalIn, decimal, integer, hexadecimal}
 use Rattle.report.specs.Text.{headLine, refusal, figureField, lastFields, lineWith, lineText, addText, columnsText, fileText, reportText}
 

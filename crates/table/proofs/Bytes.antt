@@ -22,7 +22,7 @@ use Rattle.record.specs.Keys.{keys, rising}
 use Rattle.record.specs.Sound.{soundHeld, isZero, soundRecord, soundRecords, sound}
 use Rattle.record.specs.Section.{Section, meaning, recordOf, sections, sectionBytes, written}
 use Rattle.record.proofs.Laws.{length-encode, HeldInRange, InRange, decode-encode}
-use Rattle.table.proofs.Lists.{All}
+use Rattle.lists.proofs.All.{All}
 use Rattle.table.proofs.Lookup.{Above, Rising, keysIn}
 use Rattle.table.proofs.Proper.{Proper}
 

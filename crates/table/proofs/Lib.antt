@@ -1,5 +1,4 @@
 -- Laws of adding and merging.
-pub mod Lists
 pub mod Combine
 pub mod Lookup
 pub mod Proper

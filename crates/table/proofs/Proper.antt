@@ -13,7 +13,7 @@ use Rattle.level.proofs.Top.{top-le, contribution-bound}
 use Rattle.record.specs.Section.{Section, sectionAt}
 use Rattle.patch.specs.Rows.{Row}
 use Rattle.table.specs.Combine.{ofRow, levelOf, combine, absorb, merged, added}
-use Rattle.table.proofs.Lists.{All}
+use Rattle.lists.proofs.All.{All}
 use Rattle.table.proofs.Lookup.{absorb-cases, added-merged}
 
 -- all conditions but that the row count fits its field

@@ -21,7 +21,7 @@ use Rattle.record.specs.Section.{Section, meaning, recordOf, sections, sectionB
 use Rattle.record.proofs.Laws.{encode-decode}
 use Rattle.record.proofs.Parts.{Empty, sound-record-parts, residue-bound, total-bound}
 use Rattle.record.proofs.Sound.{sound-parts, sound-made}
-use Rattle.table.proofs.Lists.{All}
+use Rattle.lists.proofs.All.{All}
 use Rattle.table.proofs.Lookup.{Rising, keysIn}
 use Rattle.table.proofs.Proper.{Proper}
 use Rattle.table.proofs.Bytes.{Fits, rising-records, sound-records}

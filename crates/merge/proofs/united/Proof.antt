@@ -10,7 +10,8 @@ use lib.Dec.{T}
 use lib.ListN.{length}
 use Rattle.record.specs.Sound.{sound}
 use Rattle.record.proofs.Sound.{sound-parts}
-use Rattle.table.specs.Calls.{anyOf, overfull, mergeSections}
+use Rattle.table.specs.Calls.{overfull, mergeSections}
+use Rattle.lists.specs.Lists.{anyOf}
 use Rattle.merge.specs.declared.Ends.{Ends}
 use Rattle.merge.specs.Steps.{lastSection, Back}
 use Rattle.table.proofs.State.{length-sections}

@@ -1,8 +1,9 @@
 -- What holds of every member of a list.
 use mathlib.Core.Path.{_≡_, refl, ap}
-use mathlib.Core.Bool.{Bool, true, false, _||_, true≢false}
+use mathlib.Core.Bool.{Bool, false, _||_}
 use mathlib.Core.List.{List, [], _∷_, _++_, map}
-use Rattle.table.specs.Calls.{anyOf}
+use Rattle.lists.specs.Lists.{anyOf}
+use Rattle.lists.proofs.Booleans.{or-false}
 
 abbrev pub All : {A : Type 0} → (A → Type 0) → List A → Type 0
 All P [] = Unit {0}
@@ -20,10 +21,6 @@ module _ {A : Type 0} (P : A → Type 0) where
   pub all-zip : (Q R : A → Type 0) → ((x : A) → P x → Q x → R x) → (xs : List A) → All P xs → All Q xs → All R xs
   all-zip Q R f [] a b = tt
   all-zip Q R f (x ∷ xs) a b = (f x (a .0) (b .0), all-zip Q R f xs (a .1) (b .1))
-
-pub or-false : (a b : Bool) → (a || b) ≡ false → (a ≡ false) × (b ≡ false)
-or-false true b e = absurd (true≢false e)
-or-false false b e = (refl, e)
 
 -- none has p
 pub any-false : {A : Type 0} (p : A → Bool) (xs : List A) → anyOf p xs ≡ false → All (λ (x : A). p x ≡ false) xs

@@ -1,0 +1,4 @@
+-- Laws of truth values and of lists.
+pub mod Booleans
+pub mod All
+pub mod Scanning

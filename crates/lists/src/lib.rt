@@ -1,0 +1,1 @@
+// Lists and truth values: definitions and laws only, no code.

@@ -1,0 +1,44 @@
+-- What an outcome says of its grounds, each named by its number and not by its place in the list.
+use Prim.Native.Nat.{ℕ}
+use mathlib.Core.Path.{_≡_, refl}
+use mathlib.Core.Bool.{Bool, true, false, cond}
+use mathlib.Core.List.{List, [], _∷_}
+use native.Mathlib.Omega.{arith}
+use lib.Dec.{eqb}
+use Rattle.lists.proofs.Booleans.{or-false}
+use Rattle.refusal.specs.Outcome.{Outcome, accepted, refused, Ground, outcome, condition, isRefusal, isGround}
+
+pub accepted≢refused : {A : Type 0} {x : A} {n : ℕ} → refused n ≡ accepted x → ⊥
+accepted≢refused e = let z : _≡_ {A = ℕ} 0 1 = cc in omega arith
+
+-- a list that is accepted begins with a ground that does not hold, and its rest is accepted
+first : {A : Type 0} (c : Ground) (cs : List Ground) (x : A) {y : A} → outcome (c ∷ cs) x ≡ accepted y → (c .holds ≡ false) × (outcome cs x ≡ accepted y)
+first c cs x {y} e = go (c .holds) refl e
+  where
+    go : (b : Bool) → c .holds ≡ b → cond b (refused (c .number)) (outcome cs x) ≡ accepted y → (c .holds ≡ false) × (outcome cs x ≡ accepted y)
+    go true h q = absurd (accepted≢refused q)
+    go false h q = (h, q)
+
+-- of an accepted call no ground holds
+pub accepted-not : {A : Type 0} (n : ℕ) (gs : List Ground) (x : A) {y : A} → outcome gs x ≡ accepted y → condition n gs ≡ false
+accepted-not n [] x e = refl
+accepted-not n (c ∷ cs) x e = let f = first c cs x e in by (eqb n (c .number)) (f .0) (accepted-not n cs x (f .1))
+  where
+    by : (b : Bool) → c .holds ≡ false → condition n cs ≡ false → cond b (c .holds) (condition n cs) ≡ false
+    by true h r = h
+    by false h r = r
+
+-- and it has the value that it was to have
+pub accepted-value : {A : Type 0} (gs : List Ground) (x : A) {y : A} → outcome gs x ≡ accepted y → x ≡ y
+accepted-value [] x e = cc
+accepted-value (c ∷ cs) x e = accepted-value cs x (first c cs x e .1)
+
+-- a number that no ground has is not given
+pub not-given : {A : Type 0} (n : ℕ) (gs : List Ground) (x : A) → isGround n gs ≡ false → isRefusal n (outcome gs x) ≡ false
+unfolding isRefusal
+not-given n [] x e = refl
+not-given n (c ∷ cs) x e = let f = or-false (eqb n (c .number)) (isGround n cs) e in go (f .0) (not-given n cs x (f .1)) (c .holds)
+  where
+    go : eqb n (c .number) ≡ false → isRefusal n (outcome cs x) ≡ false → (b : Bool) → isRefusal n (cond b (refused (c .number)) (outcome cs x)) ≡ false
+    go h ih true = h
+    go h ih false = ih
