@@ -7,7 +7,7 @@ use native.Mathlib.Decide.{ℕ-discrete}
 use borrow.Author.Tests.{eq-eqb, ne-eqb}
 use lib.ListN.{length}
 use Rattle.refusal.specs.Outcome.{Outcome, accepted, refused, Ground, outcome}
-use Rattle.patch.specs.Rows.{Row, rowsOf}
+use Rattle.columns.specs.Columns.{Row, rowsOf}
 use Rattle.record.specs.Section.{Section, written}
 use Rattle.table.specs.Calls.{addGrounds, addOutcome, mergeGrounds, mergeOutcome, leaves}
 use Rattle.lists.specs.Lists.{anyOf}

@@ -11,7 +11,7 @@ use lib.ListN.{length, drop, length-map}
 use Rattle.codec.specs.Bytes.{number, numberAt}
 use Rattle.codec.proofs.Laws.{AreBytes, drop-bytes, numberAt-lt}
 use Rattle.refusal.specs.Outcome.{Outcome, accepted, refused, Ground, outcome}
-use Rattle.patch.specs.Rows.{Row, rowsFrom, columnRows, rowsOf}
+use Rattle.columns.specs.Columns.{Row, rowsFrom, columnRows, rowsOf}
 use Rattle.record.specs.Layout.{capacity}
 use Rattle.record.specs.Sound.{sound}
 use Rattle.record.specs.Section.{Section, sections, written}

@@ -8,7 +8,7 @@ use lib.ListN.{length, length-append}
 use lib.IntN.{pos, _+ℤ_, +ℤ-idl, +ℤ-idr, +ℤ-assoc}
 use Rattle.level.specs.Level.{top, contribution, topOf, total}
 use Rattle.level.proofs.Top.{contribution-above}
-use Rattle.patch.specs.Rows.{Row}
+use Rattle.columns.specs.Columns.{Row}
 use Rattle.table.specs.Combine.{ofRow, combine}
 use Rattle.table.proofs.Combine.{sectionAt-cong, combine-at, combine-comm}
 use Rattle.table.proofs.Lookup.{join, join-none}

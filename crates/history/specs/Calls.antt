@@ -7,7 +7,7 @@ use lib.ListN.{length}
 use lib.Pow.{areBytes}
 use Rattle.refusal.specs.Outcome.{Outcome, accepted, refused, Ground, ground, outcome}
 use Rattle.level.specs.Double.{finite}
-use Rattle.patch.specs.Rows.{Row, rowsOf, columnsFit}
+use Rattle.columns.specs.Columns.{Row, rowsOf, columnsFit}
 use Rattle.record.specs.Layout.{capacity}
 use Rattle.lists.specs.Lists.{anyOf}
 use Rattle.history.specs.Rows.{bitsOf, keysOf}

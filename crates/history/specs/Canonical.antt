@@ -5,7 +5,7 @@ use mathlib.Core.Option.{Option, none, some}
 use lib.ListN.{length}
 use Rattle.level.specs.Level.{topOf, total}
 use Rattle.record.specs.Section.{Section, sectionAt}
-use Rattle.patch.specs.Rows.{Row}
+use Rattle.columns.specs.Columns.{Row}
 use Rattle.history.specs.Rows.{bitsOf, keysOf}
 
 -- section k of rows with the bits bs: their number, their largest top, and the sums of their contributions to the three levels

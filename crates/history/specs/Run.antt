@@ -8,7 +8,7 @@ use lib.Ieee.{Float}
 use Rattle.refusal.specs.Outcome.{Outcome, accepted, refused}
 use Rattle.finish.specs.declared.FinishedLine.{FinishedLine}
 use Rattle.finish.specs.Finish.{sumOf, figureOf, lineOf, sumOutcome, figureOutcome, lineOutcome}
-use Rattle.patch.specs.Rows.{Row}
+use Rattle.columns.specs.Columns.{Row}
 use Rattle.table.specs.Calls.{addOutcome, addLeaves, mergeOutcome, mergeLeaves}
 use Rattle.history.specs.Rows.{bitsOf}
 use Rattle.history.specs.Canonical.{sectionIf}

@@ -10,7 +10,7 @@ use Rattle.codec.specs.Bytes.{numberAt}
 use Rattle.codec.specs.Cells.{cells}
 use Rattle.codec.proofs.Laws.{AreBytes, numberAt-lt, drop-bytes}
 use Rattle.refusal.specs.Outcome.{accepted}
-use Rattle.patch.specs.Rows.{Row, columnRows, rowsFrom, rowsOf}
+use Rattle.columns.specs.Columns.{Row, columnRows, rowsFrom, rowsOf}
 use Rattle.patch.proofs.Grounds.{none-holds}
 use Rattle.record.specs.Layout.{capacity}
 use Rattle.record.specs.Section.{Section, sections, written}
