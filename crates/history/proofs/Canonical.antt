@@ -8,6 +8,7 @@ use native.Mathlib.Omega.{arith}
 use native.Mathlib.Decide.{ℕ-discrete}
 use borrow.Author.Tests.{eq-eqb, ne-eqb, lt-ltb, le-ltb}
 use lib.Dec.{eqb}
+use Rattle.level.specs.Level.{topOf}
 use Rattle.record.specs.Section.{Section, find}
 use Rattle.columns.specs.Columns.{Row}
 use Rattle.table.specs.Combine.{ofRow, absorb, merged, added}
@@ -85,7 +86,7 @@ if-nonEmpty k (b ∷ bs) = refl
 pub find-canonical : (k : ℕ) (rows : List Row) → find k (canonical rows) ≡ sectionIf k (bitsOf k rows)
 unfolding canonical
 find-canonical k rows =
-    find-keys (λ l. sectionOf l (bitsOf l rows)) (λ l. section-key l (bitsOf l rows)) k rows ∙ if-nonEmpty k (bitsOf k rows)
+    find-keys (λ l. sectionOf l (bitsOf l rows)) (λ l. section-key l (topOf (bitsOf l rows)) (bitsOf l rows)) k rows ∙ if-nonEmpty k (bitsOf k rows)
 
 -- ---- its keys rise
 insert-above : (k a : ℕ) (ls : List ℕ) → k < a → Above k ls → Above k (insertKey a ls)
@@ -115,7 +116,7 @@ keys-rising (r ∷ rs) = insert-rising (r .key) (keysOf rs) (keys-rising rs)
 
 keys-back : (g : ℕ → List ℕ) (ls : List ℕ) → keysIn (map (λ l. sectionOf l (g l)) ls) ≡ ls
 keys-back g [] = refl
-keys-back g (l ∷ ls) = ap₂ _∷_ (section-key l (g l)) (keys-back g ls)
+keys-back g (l ∷ ls) = ap₂ _∷_ (section-key l (topOf (g l)) (g l)) (keys-back g ls)
 
 pub canonical-rising : (rows : List Row) → Rising (keysIn (canonical rows))
 unfolding canonical
@@ -128,8 +129,8 @@ is-canonical ts rows a e = find-ext ts (canonical rows) a (canonical-rising rows
 only-row : (r : Row) (l : ℕ) → Dec (l ≡ r .key) → only l (sectionOf (r .key) (r .bits ∷ [])) ≡ sectionIf l (bitsOf l (r ∷ []))
 unfolding sectionIf bitsOf
 only-row r l (yes e) =
-    only-is l _ (e ∙ sym (section-key (r .key) (r .bits ∷ []))) ∙ rw (bits-is l r [] e) (ap (λ (k : ℕ). some (sectionOf k (r .bits ∷ []))) (sym e))
-only-row r l (no e) = only-not l _ (λ q. e (q ∙ section-key (r .key) (r .bits ∷ []))) ∙ rw (bits-not l r [] e)
+    only-is l _ (e ∙ sym (section-key (r .key) (topOf (r .bits ∷ [])) (r .bits ∷ []))) ∙ rw (bits-is l r [] e) (ap (λ (k : ℕ). some (sectionOf k (r .bits ∷ []))) (sym e))
+only-row r l (no e) = only-not l _ (λ q. e (q ∙ section-key (r .key) (topOf (r .bits ∷ [])) (r .bits ∷ []))) ∙ rw (bits-not l r [] e)
 
 absorb-row : (rows : List Row) (r : Row) → absorb (ofRow r) (canonical rows) ≡ canonical (rows ++ (r ∷ []))
 absorb-row rows r =

@@ -9,6 +9,7 @@ use lib.ListN.{length, drop}
 use lib.Seq.{take-at}
 use Rattle.codec.specs.Cells.{image}
 use Rattle.refusal.specs.Outcome.{Outcome}
+use Rattle.level.specs.Level.{topOf}
 use Rattle.record.specs.Sound.{sound}
 use Rattle.record.specs.Section.{Section, sectionBytes, find}
 use Rattle.finish.specs.Finish.{finishing, sumOf, figureOf, lineOf}
@@ -20,6 +21,7 @@ use Rattle.history.specs.Canonical.{sectionOf, sectionIf, canonical}
 use Rattle.history.specs.Calls.{Call, lendsBytes}
 use Rattle.history.specs.Run.{Store, sumIn, figureIn, lineIn, refuses}
 use Rattle.history.specs.Demand3.{History, noRows, lengths, rows, table, used, sectionsIn, Demand3}
+use Rattle.history.proofs.Sections.{section-count}
 use Rattle.history.proofs.Canonical.{find-canonical}
 use Rattle.history.proofs.Order.{canonical-same}
 use Rattle.history.proofs.Near.{near}
@@ -37,10 +39,6 @@ absent-is : (k : ℕ) (bs : List ℕ) → length bs ≡ 0 → sectionIf k bs ≡
 unfolding sectionIf
 absent-is k [] e = refl
 absent-is k (b ∷ bs) e = absurd (omega arith)
-
-count-is : (k : ℕ) (bs : List ℕ) → (sectionOf k bs) .count ≡ length bs
-unfolding sectionOf
-count-is k bs = refl
 
 -- ---- a table after a list of calls
 module _ (h : History) where
@@ -102,7 +100,7 @@ demand3 = record {
   present = λ h i k l. (
     sectionOf k (bitsOf k (rows h i)),
     found-is h i k ∙ present-is k (bitsOf k (rows h i)) l,
-    count-is k (bitsOf k (rows h i)),
+    section-count k (topOf (bitsOf k (rows h i))) (bitsOf k (rows h i)),
     near k (bitsOf k (rows h i)),
   );
 }

@@ -22,7 +22,7 @@ use Rattle.lists.proofs.All.{All, all-append, all-zip, any-false, any-map}
 use Rattle.table.proofs.Proper.{Proper, added-proper}
 use Rattle.table.proofs.Bytes.{Fits, sections-written, length-written, sound-written}
 use Rattle.history.specs.Rows.{bitsOf, keysOf}
-use Rattle.history.specs.Canonical.{sectionOf, canonical}
+use Rattle.history.specs.Canonical.{sectionAtTop, sectionOf, canonical}
 use Rattle.history.specs.Calls.{tooManyRows, tooManyKeys, addRowsGrounds, addRowsOutcome, mergeRowsGrounds, mergeRowsOutcome, brought}
 use Rattle.history.proofs.Canonical.{canonical-rising, added-canonical}
 
@@ -41,7 +41,7 @@ none-fit len = record { keys = tt; few = refl; room = le-ltb (capacity len) 0 (o
 
 -- ---- 11 and 12 on the sections of rows
 pub few-canonical : (rows : List Row) → anyOf overfull (canonical rows) ≡ tooManyRows rows
-unfolding tooManyRows canonical sectionOf
+unfolding tooManyRows canonical sectionAtTop
 few-canonical rows = any-map overfull (λ k. sectionOf k (bitsOf k rows)) (keysOf rows)
 
 pub length-canonical : (rows : List Row) → length (canonical rows) ≡ length (keysOf rows)

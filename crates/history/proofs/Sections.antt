@@ -1,64 +1,64 @@
--- The section of some rows combined with the section of further rows is the section of all of them.
-use Prim.Native.Nat.{ℕ, _+_, _<_, max}
+-- Sections of rows at any top that is at least every row's: what they hold, and that two of them combine to the section of all their rows.
+use Prim.Native.Nat.{ℕ, _+_, _≤_, max}
 use mathlib.Core.Path.{_≡_, refl, sym, _∙_, ap}
 use mathlib.Core.List.{List, [], _∷_, _++_, append-nil}
 use mathlib.Core.Option.{some}
 use native.Mathlib.Omega.{arith}
+use native.Mathlib.Nat.{le-refl}
 use lib.ListN.{length, length-append}
-use lib.IntN.{pos, _+ℤ_, +ℤ-idl, +ℤ-idr, +ℤ-assoc}
+use lib.IntN.{pos, _+ℤ_, +ℤ-idr}
 use Rattle.level.specs.Level.{top, contribution, topOf, total}
-use Rattle.level.proofs.Top.{contribution-above}
-use Rattle.columns.specs.Columns.{Row}
-use Rattle.table.specs.Combine.{ofRow, combine}
-use Rattle.table.proofs.Combine.{sectionAt-cong, combine-at, combine-comm}
+use Rattle.level.proofs.Section.{topOf-append, total-append, total-above}
+use Rattle.patch.specs.Rows.{Row}
+use Rattle.table.specs.Combine.{ofRow, levelOf, combine}
+use Rattle.table.proofs.Combine.{levelOf-at, sectionAt-cong, combine-at, combine-comm}
 use Rattle.table.proofs.Lookup.{join, join-none}
-use Rattle.history.specs.Canonical.{sectionOf, sectionIf}
+use Rattle.history.specs.Canonical.{sectionAtTop, sectionOf, sectionIf}
 
-total-above : (bs : List ℕ) (j : ℕ) → topOf bs < j → total bs j ≡ pos 0
-unfolding total topOf
-total-above [] j h = refl
-total-above (b ∷ bs) j h = rw (contribution-above b j (omega arith), total-above bs j (omega arith))
+-- ---- held at a top t
+pub section-key : (k t : ℕ) (bs : List ℕ) → (sectionAtTop k t bs) .key ≡ k
+unfolding sectionAtTop
+section-key k t bs = refl
 
-total-append : (bs cs : List ℕ) (j : ℕ) → total (bs ++ cs) j ≡ total bs j +ℤ total cs j
-unfolding total
-total-append [] cs j = sym (+ℤ-idl (total cs j))
-total-append (b ∷ bs) cs j = rw (total-append bs cs j) (sym (+ℤ-assoc (contribution b j) (total bs j) (total cs j)))
+pub section-count : (k t : ℕ) (bs : List ℕ) → (sectionAtTop k t bs) .count ≡ length bs
+unfolding sectionAtTop
+section-count k t bs = refl
 
-topOf-append : (bs cs : List ℕ) → topOf (bs ++ cs) ≡ max (topOf bs) (topOf cs)
-unfolding topOf
-topOf-append [] cs = omega arith
-topOf-append (b ∷ bs) cs = omega (arith, topOf-append bs cs)
+-- at its three levels, and above them, it holds the rows' totals
+pub section-total : (k t : ℕ) (bs : List ℕ) (j : ℕ) → topOf bs ≤ t → t ≤ j + 2 → levelOf (sectionAtTop k t bs) j ≡ total bs j
+unfolding sectionAtTop
+section-total k t bs j h l = levelOf-at k (length bs) t (total bs) j l (λ q. total-above bs j (omega arith))
 
-pub combine-sections : (k : ℕ) (bs cs : List ℕ) → combine (sectionOf k bs) (sectionOf k cs) ≡ sectionOf k (bs ++ cs)
-unfolding sectionOf
-combine-sections k bs cs =
-    combine-at k (length bs) (length cs) (topOf bs) (topOf cs) (total bs) (total cs) (total-above bs) (total-above cs)
-    ∙ sectionAt-cong k (length bs + length cs) (max (topOf bs) (topOf cs)) (λ j. total bs j +ℤ total cs j) (total (bs ++ cs))
-    (λ j h. sym (total-append bs cs j))
-    ∙ rw (topOf-append bs cs, length-append bs cs)
+pub combine-sections : (k t u : ℕ) (bs cs : List ℕ) → topOf bs ≤ t → topOf cs ≤ u
+    → combine (sectionAtTop k t bs) (sectionAtTop k u cs) ≡ sectionAtTop k (max t u) (bs ++ cs)
+unfolding sectionAtTop
+combine-sections k t u bs cs h l =
+    combine-at k (length bs) (length cs) t u (total bs) (total cs) (λ j q. total-above bs j (omega arith)) (λ j q. total-above cs j (omega arith))
+    ∙ sectionAt-cong k (length bs + length cs) (max t u) (λ j. total bs j +ℤ total cs j) (total (bs ++ cs)) (λ j q. sym (total-append bs cs j))
+    ∙ rw (length-append bs cs)
 
-pub section-key : (k : ℕ) (bs : List ℕ) → (sectionOf k bs) .key ≡ k
-unfolding sectionOf
-section-key k bs = refl
-
+-- ---- held at the largest top
 -- a row by itself
 pub row-section : (r : Row) → ofRow r ≡ sectionOf (r .key) (r .bits ∷ [])
-unfolding ofRow sectionOf topOf total
+unfolding ofRow sectionAtTop topOf total
 row-section r =
     let m : max (top (r .bits)) 0 ≡ top (r .bits) = omega arith in
     sectionAt-cong (r .key) 1 (top (r .bits)) (contribution (r .bits)) (λ j. contribution (r .bits) j +ℤ pos 0) (λ j h. sym (+ℤ-idr (contribution (r .bits) j)))
     ∙ rw m
 
--- ---- where there may be no rows
+-- where there may be no rows
 pub join-sections : (k : ℕ) (bs cs : List ℕ) → join (sectionIf k bs) (sectionIf k cs) ≡ sectionIf k (bs ++ cs)
 unfolding join sectionIf
 join-sections k [] cs = refl
 join-sections k (b ∷ bs) [] = ap (λ (xs : List ℕ). some (sectionOf k (b ∷ xs))) (sym (append-nil bs))
-join-sections k (b ∷ bs) (c ∷ cs) = ap some (combine-sections k (b ∷ bs) (c ∷ cs))
+join-sections k (b ∷ bs) (c ∷ cs) =
+    ap some
+    (combine-sections k (topOf (b ∷ bs)) (topOf (c ∷ cs)) (b ∷ bs) (c ∷ cs) (le-refl (topOf (b ∷ bs))) (le-refl (topOf (c ∷ cs)))
+    ∙ ap (λ (t : ℕ). sectionAtTop k t ((b ∷ bs) ++ (c ∷ cs))) (sym (topOf-append (b ∷ bs) (c ∷ cs))))
 
 pub join-comm : (k : ℕ) (bs cs : List ℕ) → join (sectionIf k bs) (sectionIf k cs) ≡ join (sectionIf k cs) (sectionIf k bs)
 unfolding join sectionIf
 join-comm k [] cs = sym (join-none (sectionIf k cs))
 join-comm k (b ∷ bs) [] = refl
 join-comm k (b ∷ bs) (c ∷ cs) =
-    ap some (combine-comm (sectionOf k (b ∷ bs)) (sectionOf k (c ∷ cs)) (section-key k (b ∷ bs) ∙ sym (section-key k (c ∷ cs))))
+    ap some (combine-comm (sectionOf k (b ∷ bs)) (sectionOf k (c ∷ cs)) (section-key k (topOf (b ∷ bs)) (b ∷ bs) ∙ sym (section-key k (topOf (c ∷ cs)) (c ∷ cs))))

@@ -8,9 +8,13 @@ use Rattle.record.specs.Section.{Section, sectionAt}
 use Rattle.columns.specs.Columns.{Row}
 use Rattle.history.specs.Rows.{bitsOf, keysOf}
 
--- section k of rows with the bits bs: their number, their largest top, and the sums of their contributions to the three levels
-unfoldable pub sectionOf : ℕ → List ℕ → Section
-sectionOf k bs = sectionAt k (length bs) (topOf bs) (total bs)
+-- section k of rows with the bits bs, held at top t: their number, t, and the sums of their contributions to the levels t, t - 1 and t - 2
+unfoldable pub sectionAtTop : ℕ → ℕ → List ℕ → Section
+sectionAtTop k t bs = sectionAt k (length bs) t (total bs)
+
+-- section k of rows with the bits bs: it is held at their largest top
+abbrev pub sectionOf : ℕ → List ℕ → Section
+sectionOf k bs = sectionAtTop k (topOf bs) bs
 
 -- section k, where it has a row
 unfoldable pub sectionIf : ℕ → List ℕ → Option Section

@@ -20,7 +20,7 @@ use Rattle.table.specs.Combine.{ofRow, levelOf, combine, absorb, merged, added}
 use Rattle.table.specs.Calls.{addGrounds, mergeGrounds}
 use Rattle.lists.specs.Lists.{anyOf}
 use Rattle.history.specs.Rows.{bitsOf, insertKey, keysOf}
-use Rattle.history.specs.Canonical.{sectionOf, canonical}
+use Rattle.history.specs.Canonical.{sectionAtTop, canonical}
 use Rattle.history.specs.Calls.{Call, add, merge, sum, figure, line, tooManyRows, tooManyKeys, addRowsGrounds, mergeRowsGrounds, stepRows, rowsAfter}
 use Rattle.history.specs.Demand3.{History}
 use Rattle.history.specs.Run.{Store, groupsAre, sumIs, figureIs, lineIs, step, tablesAfter, answer, answers}
@@ -61,7 +61,7 @@ ways =
     ∷ []
 
 one-table : map left ways ≡ replicate 6 (record { bytes = written (canonical rows) first; groups = 2 })
-unfolding left canonical keysOf insertKey bitsOf sectionOf topOf total
+unfolding left canonical keysOf insertKey bitsOf sectionAtTop topOf total
 one-table = refl
 
 -- a table merged twice counts twice, in the rows and in the record

@@ -6,8 +6,9 @@ use native.Mathlib.Decide.{decLe}
 use native.Mathlib.Omega.{arith}
 use lib.IntN.{ℤ, pos, negsuc, natAbs, _+ℤ_, _-ℤ_, _*ℤ_, +ℤ-idl, +ℤ-idr, +ℤ-assoc, +ℤ-comm, -ℤ-+ℤ-cancel}
 use lib.Pow.{pow-pos, pow-mono}
+use Rattle.integers.proofs.Laws.{size-zero}
 use Rattle.level.specs.Double.{negative, field, significand, size, value}
-use Rattle.level.specs.Level.{unit, left, given, top, contribution, below, kept}
+use Rattle.level.specs.Level.{unit, left, given, top, contribution, below, levelSum}
 use Rattle.level.proofs.Given.{left-half, left-size}
 use Rattle.level.proofs.Near.{pow-sum}
 use Rattle.level.proofs.Signs.{natAbs-signed}
@@ -32,12 +33,9 @@ after-half (suc s) z (suc n) = rw (suc-sub-suc s n) (after-half s (left z (suc s
 -- so nothing is left after level 0
 pub after-none : (t : ℕ) (z : ℤ) (n : ℕ) → t ≤ n → leftAfter t z (suc n) ≡ pos 0
 after-none t z n h =
-    let e : t - n ≡ 0 = omega arith in
-    none (leftAfter t z (suc n)) (rw e at (after-half t z n))
-  where
-    none : (w : ℤ) → natAbs w * 2 ≤ unit 0 → w ≡ pos 0
-    none (pos m) l = ap pos (omega arith)
-    none (negsuc m) l = absurd (omega arith)
+    let e : 40 * (t - n) ≡ 0 = omega arith in
+    let half : natAbs (leftAfter t z (suc n)) * 2 ≤ 1 = rw e at (after-half t z n) in
+    size-zero (leftAfter t z (suc n)) (omega arith)
 
 after-step : (t : ℕ) (z : ℤ) (n : ℕ) → leftAfter t z (suc n) ≡ leftAfter t z n -ℤ rung t z n *ℤ pos (unit (t - n))
 unfolding leftAfter rung
@@ -50,19 +48,24 @@ move : (k r l : ℤ) → k +ℤ r +ℤ (l -ℤ r) ≡ k +ℤ l
 move k r l = +ℤ-assoc k r (l -ℤ r) ∙ ap (λ (w : ℤ). k +ℤ w) (+ℤ-comm r (l -ℤ r) ∙ -ℤ-+ℤ-cancel l r)
 
 -- what the levels hold, with what is left, is the number
-pub kept-given : (t : ℕ) (z : ℤ) (n : ℕ) → kept (given (suc t) z) t n +ℤ leftAfter t z n ≡ z
-unfolding kept leftAfter
-kept-given t z zero = +ℤ-idl z
-kept-given t z (suc n) =
-    let k = kept (given (suc t) z) t n in
+pub levelSum-given : (t : ℕ) (z : ℤ) (n : ℕ) → levelSum (given (suc t) z) t n +ℤ leftAfter t z n ≡ z
+unfolding levelSum leftAfter
+levelSum-given t z zero = +ℤ-idl z
+levelSum-given t z (suc n) =
+    let k = levelSum (given (suc t) z) t n in
     let r = below (given (suc t) z) t n *ℤ pos (unit (t - n)) in
     ap (λ (w : ℤ). k +ℤ r +ℤ w) (after-step t z n ∙ ap (λ (g : ℤ). leftAfter t z n -ℤ g *ℤ pos (unit (t - n))) (rung-below t z n))
-    ∙ move k r (leftAfter t z n) ∙ kept-given t z n
+    ∙ move k r (leftAfter t z n) ∙ levelSum-given t z n
 
 -- of a row, for any start at its top or above
-pub kept-row : (b t n : ℕ) → top b ≤ t → kept (contribution b) t n +ℤ leftAfter t (value b) n ≡ value b
-kept-row b t n h =
-    ap (λ (g : ℕ → ℤ). kept g t n +ℤ leftAfter t (value b) n) (fun-ext (λ (j : ℕ). sym (contribution-start b t j h))) ∙ kept-given t (value b) n
+pub levelSum-row : (b t n : ℕ) → top b ≤ t → levelSum (contribution b) t n +ℤ leftAfter t (value b) n ≡ value b
+levelSum-row b t n h =
+    ap (λ (g : ℕ → ℤ). levelSum g t n +ℤ leftAfter t (value b) n) (fun-ext (λ (j : ℕ). sym (contribution-start b t j h))) ∙ levelSum-given t (value b) n
+
+-- where nothing is left, the levels hold all of it
+pub levelSum-all : (b t n : ℕ) → top b ≤ t → leftAfter t (value b) n ≡ pos 0 → levelSum (contribution b) t n ≡ value b
+levelSum-all b t n h e =
+    sym (+ℤ-idr (levelSum (contribution b) t n)) ∙ ap (λ (w : ℤ). levelSum (contribution b) t n +ℤ w) (sym e) ∙ levelSum-row b t n h
 
 -- ---- a whole number of 2^e leaves one, and nothing once a level's unit is 2^e or less
 left-whole : (z : ℤ) (j e q : ℕ) → natAbs z ≡ q * 2 ^ e → (p : ℕ) × (natAbs (left z j) ≡ p * 2 ^ e)
@@ -98,8 +101,7 @@ after-exact t z n e q h l =
     nothing (leftAfter t z (suc n)) (w .0) (2 ^ e) (pow-pos e) (w .1) (le-trans (after-half t z n) (pow-mono l))
 
 -- at its own top a row is kept whole by three levels
-pub kept-whole : (b : ℕ) → kept (contribution b) (top b) 3 ≡ value b
-kept-whole b =
-    sym (+ℤ-idr (kept (contribution b) (top b) 3))
-    ∙ ap (λ (w : ℤ). kept (contribution b) (top b) 3 +ℤ w) (sym (after-exact (top b) (value b) 2 (field b - 1) (significand b) (natAbs-signed (negative b) (size b)) (omega (arith, top-place b))))
-    ∙ kept-row b (top b) 3 (le-refl (top b))
+pub levelSum-whole : (b : ℕ) → levelSum (contribution b) (top b) 3 ≡ value b
+levelSum-whole b =
+    levelSum-all b (top b) 3 (le-refl (top b))
+    (after-exact (top b) (value b) 2 (field b - 1) (significand b) (natAbs-signed (negative b) (size b)) (omega (arith, top-place b)))

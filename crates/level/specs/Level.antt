@@ -45,9 +45,9 @@ abbrev pub below : (ℕ → ℤ) → ℕ → ℕ → ℤ
 below g t k = cond (leb k t) (g (t - k)) (pos 0)
 
 -- the value of n levels of such a column, t and those below it
-unfoldable pub kept : (ℕ → ℤ) → ℕ → ℕ → ℤ
-kept g t zero = pos 0
-kept g t (suc n) = kept g t n +ℤ below g t n *ℤ pos (unit (t - n))
+unfoldable pub levelSum : (ℕ → ℤ) → ℕ → ℕ → ℤ
+levelSum g t zero = pos 0
+levelSum g t (suc n) = levelSum g t n +ℤ below g t n *ℤ pos (unit (t - n))
 
 -- the largest top among the rows
 unfoldable pub topOf : List ℕ → ℕ

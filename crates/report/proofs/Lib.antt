@@ -3,5 +3,4 @@ pub mod Digits
 pub mod Signs
 pub mod Texts
 pub mod Lines
-pub mod Tables
 pub mod Whole

@@ -14,18 +14,23 @@ use Rattle.refusal.specs.Outcome.{accepted, refused}
 use Rattle.patch.specs.File.{readOutcome, keyColumn, valueColumn}
 use Rattle.record.specs.Section.{sections}
 use Rattle.table.specs.Calls.{addSections, addOutcome, addLeaves}
+use Rattle.table.proofs.Accepted.{Left, proper-none, add-left}
 use Rattle.finish.proofs.Outcomes.{never}
 use Rattle.report.specs.Text.{refusal, lineFeed, headLine, lineText, emptyTable, addText, columnsText, fileText, reportText}
 use Rattle.report.specs.Answer.{printOutcome, printLeaves}
 use Rattle.report.specs.Steps.{Continued}
-use Rattle.report.proofs.Tables.{left-sections}
+
+-- what an accepted add to the empty table leaves
+pub columns-left : (ks vs : List ℕ) (g : ℕ) → AreBytes ks → addOutcome emptyTable 0 ks vs 4096 ≡ accepted g
+    → Left emptyTable (addSections emptyTable 0 ks vs) (addLeaves emptyTable 0 ks vs 4096) g
+columns-left ks vs g a e = add-left emptyTable 0 (proper-none emptyTable) ks vs 4096 a e
 
 pub columns-accepted : (ks vs : List ℕ) (g : ℕ) → AreBytes ks → addOutcome emptyTable 0 ks vs 4096 ≡ accepted g
     → columnsText ks vs ≡ headLine ++ image lineText (sections (addLeaves emptyTable 0 ks vs 4096) g)
 unfolding columnsText addText
 columns-accepted ks vs g a e =
     ap (λ o. addText o (addSections emptyTable 0 ks vs)) e
-    ∙ ap (λ ts. headLine ++ image lineText ts) (sym (left-sections emptyTable ks vs 4096 g a e))
+    ∙ ap (λ ts. headLine ++ image lineText ts) (sym (columns-left ks vs g a e .holds))
 
 pub columns-refused : (ks vs : List ℕ) (n : ℕ) → addOutcome emptyTable 0 ks vs 4096 ≡ refused n → columnsText ks vs ≡ refusal n ++ lineFeed
 unfolding columnsText addText

@@ -5,3 +5,4 @@ pub mod Proper
 pub mod Bytes
 pub mod Totals
 pub mod State
+pub mod Accepted

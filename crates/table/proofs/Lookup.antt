@@ -153,6 +153,9 @@ unfolding added merged
 added-merged ts [] = refl
 added-merged ts (r ∷ rs) = added-merged (absorb (ofRow r) ts) rs
 
+pub added-rising : (ts : List Section) (rs : List Row) → Rising (keysIn ts) → Rising (keysIn (added ts rs))
+added-rising ts rs a = rw (added-merged ts rs) (merged-rising ts (map ofRow rs) a)
+
 -- ---- what is found after absorbing and merging
 unfoldable pub join : Option Section → Option Section → Option Section
 join none y = y

@@ -5,8 +5,7 @@ use Rattle.refusal.specs.Number.{numberOf}
 use Rattle.table.specs.Answer.{tableAnswer}
 use Rattle.table.specs.Calls.{addOutcome}
 use Rattle.report.specs.Text.{emptyTable}
-use Rattle.report.proofs.Tables.{few-groups, left-sound}
-use Rattle.report.proofs.Whole.{columns-accepted, columns-refused}
+use Rattle.report.proofs.Whole.{columns-left, columns-accepted, columns-refused}
 use borrow.Author.Needs.{needs}
 use Rattle.report.proofs.print_columns.Statement.{statement}
 use Rattle.report.proofs.print_columns.Tie as tie
@@ -38,7 +37,8 @@ print-table-requires c κs =
     let a = bytes (c .before .before .before .before .before .before .before .before .before .before .before) in
     let e = outcome-is (c .before .before .before .before .before .before .before) ∙ ap tableAnswer (c .before .before .before .g .given .1) in
     let g = c .before .before .before .g .given .0 .0 in
-    ((few-groups emptyTable (s .keys .now) (s .values .now) 4096 g a e, omega arith), rw (c .before .before .before .before .before .before .before .add .ensures .1 .0) (left-sound emptyTable (s .keys .now) (s .values .now) 4096 g a e))
+    let l = columns-left (s .keys .now) (s .values .now) g a e in
+    ((l .room, omega arith), rw (c .before .before .before .before .before .before .before .add .ensures .1 .0) (l .table .is-sound))
 
 enum-known-r : tie.Need-enum-known-r
 enum-known-r c = search needs
