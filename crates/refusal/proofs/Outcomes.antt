@@ -1,11 +1,12 @@
 -- What an outcome says of its grounds, each named by its number and not by its place in the list.
-use Prim.Native.Nat.{ℕ}
+use Prim.Native.Nat.{ℕ, _<_}
 use mathlib.Core.Path.{_≡_, refl, sym, ap, _∙_}
-use mathlib.Core.Bool.{Bool, true, false, cond}
+use mathlib.Core.Bool.{Bool, true, false, cond, _&&_}
 use mathlib.Core.List.{List, [], _∷_, _++_}
 use native.Mathlib.Omega.{arith}
-use lib.Dec.{eqb}
-use Rattle.lists.proofs.Booleans.{or-false}
+use borrow.Author.Tests.{ltb-true}
+use lib.Dec.{eqb, ltb}
+use Rattle.lists.proofs.Booleans.{and-true, or-false}
 use Rattle.refusal.specs.Outcome.{Outcome, accepted, refused, Ground, outcome, condition, isRefusal, isGround}
 
 pub accepted≢refused : {A : Type 0} {x : A} {n : ℕ} → refused n ≡ accepted x → ⊥
@@ -32,6 +33,22 @@ accepted-not n (c ∷ cs) x e = let f = first c cs x e in by (eqb n (c .number))
 pub accepted-value : {A : Type 0} (gs : List Ground) (x : A) {y : A} → outcome gs x ≡ accepted y → x ≡ y
 accepted-value [] x e = cc
 accepted-value (c ∷ cs) x e = accepted-value cs x (first c cs x e .1)
+
+-- ---- the number given
+
+-- every ground's number is below m
+abbrev pub numbersBelow : ℕ → List Ground → Bool
+numbersBelow m [] = true
+numbersBelow m (c ∷ cs) = ltb (c .number) m && numbersBelow m cs
+
+-- a refusal's number is that of one of the grounds
+pub refused-below : {A : Type 0} (m : ℕ) (gs : List Ground) (x : A) {n : ℕ} → numbersBelow m gs ≡ true → outcome gs x ≡ refused n → n < m
+refused-below m [] x b e = absurd (accepted≢refused (sym e))
+refused-below m (c ∷ cs) x {n} b e = let p = and-true (ltb (c .number) m) (numbersBelow m cs) b in go (c .holds) (ltb-true (c .number) m (p .0)) (refused-below m cs x (p .1)) e
+  where
+    go : (h : Bool) → c .number < m → (outcome cs x ≡ refused n → n < m) → cond h (refused (c .number)) (outcome cs x) ≡ refused n → n < m
+    go true l ih q = let z : c .number ≡ n = cc in rw (← z) l
+    go false l ih q = ih q
 
 -- ---- further grounds
 

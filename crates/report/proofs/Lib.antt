@@ -4,3 +4,4 @@ pub mod Signs
 pub mod Texts
 pub mod Lines
 pub mod Whole
+pub mod Size
