@@ -10,10 +10,10 @@ use borrow.Author.Tests.{eq-eqb, ne-eqb}
 use Rattle.record.specs.Section.{Section}
 use Rattle.patch.specs.Rows.{Row}
 use Rattle.table.proofs.Lookup.{join, join-assoc}
-use Rattle.history.specs.Rows.{equalRows, occurs, SameRows, bitsOf}
+use Rattle.history.specs.Rows.{equalRows, occurs, SameRows, valuesOf}
 use Rattle.history.specs.Canonical.{sectionIf, canonical}
 use Rattle.history.proofs.Sections.{join-sections, join-comm}
-use Rattle.history.proofs.Canonical.{bits-append, is-canonical, find-canonical, canonical-rising}
+use Rattle.history.proofs.Canonical.{values-append, is-canonical, find-canonical, canonical-rising}
 
 -- ys is xs in another order
 data Permutation : List Row → List Row → Type 0 where
@@ -78,23 +78,25 @@ permuted (x ∷ xs) ys h = go (permuted xs) (pull x ys (omega (arith, h x, occur
 -- ---- a permutation keeps each section
 module _ (k : ℕ) where
   abbrev one : Row → Option Section
-  one x = sectionIf k (bitsOf k (x ∷ []))
+  one x = sectionIf k (valuesOf k (x ∷ []))
 
-  cons : (x : Row) (xs : List Row) → sectionIf k (bitsOf k (x ∷ xs)) ≡ join (one x) (sectionIf k (bitsOf k xs))
-  cons x xs = ap (sectionIf k) (bits-append k (x ∷ []) xs) ∙ sym (join-sections k (bitsOf k (x ∷ [])) (bitsOf k xs))
+  cons : (x : Row) (xs : List Row) → sectionIf k (valuesOf k (x ∷ xs)) ≡ join (one x) (sectionIf k (valuesOf k xs))
+  cons x xs = ap (sectionIf k) (values-append k (x ∷ []) xs) ∙ sym (join-sections k (valuesOf k (x ∷ [])) (valuesOf k xs))
 
-  two : (x y : Row) (xs : List Row) → sectionIf k (bitsOf k (x ∷ y ∷ xs)) ≡ join (join (one x) (one y)) (sectionIf k (bitsOf k xs))
-  two x y xs = cons x (y ∷ xs) ∙ ap (join (one x)) (cons y xs) ∙ sym (join-assoc (one x) (one y) (sectionIf k (bitsOf k xs)))
+  two : (x y : Row) (xs : List Row) → sectionIf k (valuesOf k (x ∷ y ∷ xs)) ≡ join (join (one x) (one y)) (sectionIf k (valuesOf k xs))
+  two x y xs = cons x (y ∷ xs) ∙ ap (join (one x)) (cons y xs) ∙ sym (join-assoc (one x) (one y) (sectionIf k (valuesOf k xs)))
 
-  section-permuted : {xs ys : List Row} → Permutation xs ys → sectionIf k (bitsOf k xs) ≡ sectionIf k (bitsOf k ys)
+  section-permuted : {xs ys : List Row} → Permutation xs ys → sectionIf k (valuesOf k xs) ≡ sectionIf k (valuesOf k ys)
   section-permuted still = refl
   section-permuted (skip {x = x} {xs = xs} {ys = ys} h) = cons x xs ∙ ap (join (one x)) (section-permuted h) ∙ sym (cons x ys)
   section-permuted (swap {x = x} {y = y} {xs = xs}) =
       two x y xs
-      ∙ ap (λ (o : Option Section). join o (sectionIf k (bitsOf k xs))) (join-comm k (bitsOf k (x ∷ [])) (bitsOf k (y ∷ [])))
+      ∙ ap (λ (o : Option Section). join o (sectionIf k (valuesOf k xs))) (join-comm k (valuesOf k (x ∷ [])) (valuesOf k (y ∷ [])))
       ∙ sym (two y x xs)
   section-permuted (both h l) = section-permuted h ∙ section-permuted l
 
+pub section-same : (k : ℕ) (xs ys : List Row) → SameRows xs ys → sectionIf k (valuesOf k xs) ≡ sectionIf k (valuesOf k ys)
+section-same k xs ys h = section-permuted k (permuted xs ys (h .counts))
+
 pub canonical-same : (xs ys : List Row) → SameRows xs ys → canonical xs ≡ canonical ys
-canonical-same xs ys h =
-    is-canonical (canonical xs) ys (canonical-rising xs) (λ k. find-canonical k xs ∙ section-permuted k (permuted xs ys (h .counts)))
+canonical-same xs ys h = is-canonical (canonical xs) ys (canonical-rising xs) (λ k. find-canonical k xs ∙ section-same k xs ys h)
