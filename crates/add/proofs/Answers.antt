@@ -1,54 +1,64 @@
--- The answer of an add, by the tests in their order.
-use Prim.Native.Nat.{ℕ, _≤_, _<_}
-use mathlib.Core.Path.{_≡_, sym, ap, _∙_}
-use mathlib.Core.Bool.{true, false, not}
+-- The answer of an add: by the tests of its columns, then by its sections.
+use Prim.Native.Nat.{ℕ, _≤_}
+use mathlib.Core.Path.{_≡_, refl, sym, ap, _∙_}
+use mathlib.Core.Bool.{true, false}
 use mathlib.Core.List.{List}
-use borrow.Author.Tests.{lt-ltb, le-ltb}
+use borrow.Author.Tests.{not-false, ltb-false}
+use lib.Dec.{T}
 use lib.ListN.{length}
-use Rattle.refusal.specs.Outcome.{Outcome, refused}
-use Rattle.level.specs.Double.{finite}
-use Rattle.patch.specs.Rows.{columnsFit}
+use Rattle.refusal.specs.Outcome.{Outcome, accepted, refused, outcome, condition}
+use Rattle.refusal.proofs.Outcomes.{accepted-not, refused-first, accepted-first}
+use Rattle.columns.specs.declared.Kind.{Kind}
+use Rattle.columns.specs.Columns.{columnsFit}
 use Rattle.record.specs.Sound.{sound}
-use Rattle.table.specs.Calls.{overfull, leaves, addSections, addGrounds, addOutcome, addLeaves}
+use Rattle.record.specs.Section.{Section}
 use Rattle.lists.specs.Lists.{anyOf}
-use Rattle.add.specs.Steps.{columnBits, Settles}
-use Rattle.add.proofs.Columns.{any-bits}
+use Rattle.table.specs.Calls.{overfull, leaves, addSections, columnGrounds, columnOutcome, sectionGrounds, addGrounds, addOutcome, addLeaves}
+use Rattle.add.specs.Steps.{Stores}
 
-module _ (s : List ℕ) (g : ℕ) (ks vs : List ℕ) (work : ℕ) where
+module _ (kind : Kind) (s : List ℕ) (g : ℕ) (ks vs : List ℕ) (work : ℕ) where
   abbrev pub Answered : Outcome ℕ → List ℕ → Type 0
-  Answered r s′ = (r ≡ addOutcome s g ks vs work) × (s′ ≡ addLeaves s g ks vs work)
+  Answered r s′ = (r ≡ addOutcome kind s g ks vs work) × (s′ ≡ addLeaves kind s g ks vs work)
+
+  abbrev us : List Section
+  us = addSections kind s g ks vs
 
   -- a refused add leaves the table as it was
-  kept : (n : ℕ) → addOutcome s g ks vs work ≡ refused n → Answered (refused n) s
-  kept n e = (sym e, sym (ap (λ (o : Outcome ℕ). leaves o (addSections s g ks vs) s) e))
+  unchanged : (n : ℕ) → addOutcome kind s g ks vs work ≡ refused n → Answered (refused n) s
+  unchanged n e = (sym e, sym (ap (λ (o : Outcome ℕ). leaves o us s) e))
 
-  pub not-sound : sound s g ≡ false → Answered (refused 7) s
+  -- the columns are refused
+  pub bad-columns : (n : ℕ) → columnOutcome kind s g ks vs work ≡ refused n → Answered (refused n) s
   unfolding addGrounds
-  not-sound e = kept 7 (rw e)
+  bad-columns n e = unchanged n (refused-first (columnGrounds kind s g ks vs work) (sectionGrounds (length s) us) tt (length us) e)
 
-  module _ (p1 : sound s g ≡ true) where
-    pub too-short : work < length s → Answered (refused 8) s
+  module _ (good : columnOutcome kind s g ks vs work ≡ accepted tt) where
+    -- no condition on the columns holds
+    not-held : (n : ℕ) → condition n (columnGrounds kind s g ks vs work) ≡ false
+    not-held n = accepted-not n (columnGrounds kind s g ks vs work) tt good
+
+    pub good-table : T (sound s g)
+    unfolding columnGrounds
+    good-table = rw (not-false (sound s g) (not-held 7)) tt
+
+    pub good-work : length s ≤ work
+    unfolding columnGrounds
+    good-work = ltb-false work (length s) (not-held 8)
+
+    pub good-columns : columnsFit kind ks vs ≡ true
+    unfolding columnGrounds
+    good-columns = not-false (columnsFit kind ks vs) (not-held 9)
+
+    -- the sections decide
+    by-sections : addOutcome kind s g ks vs work ≡ outcome (sectionGrounds (length s) us) (length us)
     unfolding addGrounds
-    too-short h = kept 8 (rw (p1, lt-ltb work (length s) h))
+    by-sections = accepted-first (columnGrounds kind s g ks vs work) (sectionGrounds (length s) us) tt (length us) good
 
-    module _ (p2 : length s ≤ work) where
-      pub not-fit : columnsFit 8 ks vs ≡ false → Answered (refused 9) s
-      unfolding addGrounds
-      not-fit e = kept 9 (rw (p1, le-ltb work (length s) p2, e))
+    pub too-many : anyOf overfull us ≡ true → Answered (refused 11) s
+    too-many e = unchanged 11 (by-sections ∙ rw e)
 
-      module _ (p3 : columnsFit 8 ks vs ≡ true) where
-        pub not-finite : anyOf (λ (b : ℕ). not (finite b)) (columnBits vs) ≡ true → Answered (refused 10) s
-        unfolding addGrounds
-        not-finite e = kept 10 (rw (p1, le-ltb work (length s) p2, p3, any-bits ks vs p3, e))
-
-        module _ (p4 : anyOf (λ (b : ℕ). not (finite b)) (columnBits vs) ≡ false) where
-          pub too-many : anyOf overfull (addSections s g ks vs) ≡ true → Answered (refused 11) s
-          unfolding addGrounds
-          too-many e = kept 11 (rw (p1, le-ltb work (length s) p2, p3, any-bits ks vs p3, p4, e))
-
-          -- what is left is whether there is room
-          pub all-good : anyOf overfull (addSections s g ks vs) ≡ false → (r : Outcome ℕ) (s′ : List ℕ) → Settles s g ks vs r s′ → Answered r s′
-          unfolding addGrounds
-          all-good e r s′ h =
-              let q : r ≡ addOutcome s g ks vs work = h .0 ∙ sym (rw (p1, le-ltb work (length s) p2, p3, any-bits ks vs p3, p4, e)) in
-              (q, h .1 ∙ ap (λ (o : Outcome ℕ). leaves o (addSections s g ks vs) s) q)
+    -- what is left is whether there is room
+    pub all-good : anyOf overfull us ≡ false → (r : Outcome ℕ) (s′ : List ℕ) → Stores s us r s′ → Answered r s′
+    all-good e r s′ h =
+        let q : r ≡ addOutcome kind s g ks vs work = h .0 ∙ sym (by-sections ∙ rw e) in
+        (q, h .1 ∙ ap (λ (o : Outcome ℕ). leaves o us s) q)

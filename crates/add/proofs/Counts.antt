@@ -10,7 +10,8 @@ use borrow.Author.Tests.{lt-ltb, ltb-true, eq-eqb, ne-eqb}
 use lib.Dec.{ltb, eqb}
 use Rattle.codec.specs.Bytes.{number}
 use Rattle.codec.proofs.Cells.{length-cells}
-use Rattle.patch.specs.Rows.{Row, columnRows, rowsOf}
+use Rattle.columns.specs.declared.Kind.{Kind}
+use Rattle.columns.specs.Columns.{Row, columnRows, rowsOf, columnKeys}
 use Rattle.record.specs.Section.{Section, find}
 use Rattle.table.specs.Combine.{ofRow, combine, absorb, added}
 use Rattle.table.specs.Calls.{overfull}
@@ -18,9 +19,9 @@ use Rattle.lists.specs.Lists.{anyOf, occurrences}
 use Rattle.lists.proofs.Booleans.{same-test}
 use Rattle.lists.proofs.All.{All}
 use Rattle.table.proofs.Lookup.{Rising, keysIn, rising-tail, find-nil, find-head, find-tail, find-above, absorb-cases, absorb-rising, find-absorb, join, only, only-is, only-not, join-none}
-use Rattle.add.specs.Steps.{columnKeys, countOf, countIn, passes}
+use Rattle.add.specs.Steps.{countOf, countIn, passes}
 use Rattle.lists.proofs.Scanning.{occurrences-le}
-use Rattle.add.proofs.Columns.{row-keys}
+use Rattle.columns.proofs.Cells.{row-keys}
 
 -- ---- a test of sections by number and row count
 module _ (p : ℕ → ℕ → Bool) where
@@ -130,12 +131,12 @@ count-few k (t ∷ ts) a = by (ℕ-discrete k (t .key)) (count-few k ts (a .1))
 abbrev full : ℕ → ℕ → Bool
 full k c = ltb 4294967295 c
 
-module _ (ks vs : List ℕ) (ts : List Section) (a : All (λ (s : Section). 1 ≤ s .count) ts) (r : Rising (keysIn ts)) where
+module _ (kind : Kind) (ks vs : List ℕ) (ts : List Section) (a : All (λ (s : Section). 1 ≤ s .count) ts) (r : Rising (keysIn ts)) where
   abbrev after : List Section
-  after = added ts (rowsOf 8 ks vs)
+  after = added ts (rowsOf kind ks vs)
 
   counts : (k : ℕ) → countIn k after ≡ countIn k ts + occurrences k (columnKeys ks)
-  counts k = count-added k (rowsOf 8 ks vs) ts r ∙ ap (λ (l : List ℕ). countIn k ts + occurrences k l) (row-keys ks vs)
+  counts k = count-added k (rowsOf kind ks vs) ts r ∙ ap (λ (l : List ℕ). countIn k ts + occurrences k l) (row-keys kind ks vs)
 
   -- the add makes section k overfull
   makes : (k : ℕ) → passes ks k (countIn k ts) ≡ true → anyOf overfull after ≡ true
@@ -147,7 +148,7 @@ module _ (ks vs : List ℕ) (ts : List Section) (a : All (λ (s : Section). 1 �
   -- and so does every section that becomes overfull
   made : anyOf overfull after ≡ true → (k : ℕ) × (passes ks k (countIn k ts) ≡ true)
   made e =
-      let w = any-count full after (added-counts (rowsOf 8 ks vs) ts a) (added-rising (rowsOf 8 ks vs) ts r) e in
+      let w = any-count full after (added-counts (rowsOf kind ks vs) ts a) (added-rising (rowsOf kind ks vs) ts r) e in
       let h = ltb-true 4294967295 (countIn (w .0) after) (w .2) in
       (w .0, lt-ltb 4294967295 (countIn (w .0) ts + occurrences (w .0) (columnKeys ks)) (omega (arith, counts (w .0))))
 

@@ -1,5 +1,4 @@
 -- Laws of adding rows.
-pub mod Columns
 pub mod Counts
 pub mod Absorbing
 pub mod Rows

@@ -11,6 +11,7 @@ use borrow.Fn.Kinds.{Dens, endedOf, resT}
 use denote.Triple.Clauses.{AtExit}
 use denote.Ref.{now}
 use Rattle.refusal.specs.Outcome.{Outcome}
+use Rattle.columns.specs.declared.Kind.the-variants.{Double}
 use Rattle.table.specs.Answer.{tableAnswer}
 use Rattle.table.specs.Calls.{cleared}
 use Rattle.finish.specs.Answer.{sumAnswer, figureAnswer, lineAnswer}
@@ -44,7 +45,7 @@ pub record Conforms : Type 0 where
   -- add::add; its work buffer holds only zeros afterwards
   pub of-add : (s : State) (i : ℕ) (κs : Lfts 4) (a : Dens κs addKinds.ps) (z : resT addKinds.r κs .Denot) (e : AtExit (endedOf 4 addKinds.ps addKinds.r) κs)
       → Lent (s .tables i) (now (a .0)) (a .1 .0) → adds.Learnt κs a z e
-      → Steps s (add i (now (a .1 .1 .0)) (now (a .1 .1 .1 .0)) (length (now (a .1 .1 .1 .1 .0)))) (groupsAre (tableAnswer z)) (returned s i (tableAnswer z) (now (e .0)))
+      → Steps s (add i Double (now (a .1 .1 .0)) (now (a .1 .1 .1 .0)) (length (now (a .1 .1 .1 .1 .0)))) (groupsAre (tableAnswer z)) (returned s i (tableAnswer z) (now (e .0)))
       × (now (e .1 .1 .1 .1 .0) ≡ cleared (now (a .1 .1 .1 .1 .0)))
   -- merge::merge of table j, which is lent for reading
   pub of-merge : (s : State) (i j : ℕ) (apart : T (not (eqb i j)))

@@ -8,7 +8,7 @@ use borrow.Author.Tests.{eq-eqb, ne-eqb, not-false}
 use lib.Pow.{areBytes}
 use lib.ListN.{length}
 use Rattle.refusal.proofs.Outcomes.{not-given}
-use Rattle.patch.specs.Rows.{Row}
+use Rattle.columns.specs.Columns.{Row}
 use Rattle.lists.specs.Lists.{anyOf}
 use Rattle.lists.proofs.All.{All}
 use Rattle.history.specs.Calls.{Call, add, merge, ask, lendsBytes, addRowsGrounds, mergeRowsGrounds, Ledger, put, setRows, stepRows, ledgerAfter}
@@ -38,15 +38,15 @@ module _ (start : ℕ → List ℕ) where
   module _ (s : State) (l : Ledger) (a : Agrees start s l) where
     step-agrees : (c : Call) → not (lendsBytes c) ≡ false → Agrees start (step s c) (stepRows lens l c)
     unfolding step stepRows
-    step-agrees (add i ks vs work) b =
-        agrees-set s l a i _ _ (add-holds (start i) (s .tables i) (l .rows i) (a .tables i) ks vs work (not-false (areBytes ks && areBytes vs) b))
+    step-agrees (add i kind ks vs work) b =
+        agrees-set s l a i _ _ (add-holds (start i) (s .tables i) (l .rows i) (a .tables i) kind ks vs work (not-false (areBytes ks && areBytes vs) b))
     step-agrees (merge i j d) b =
         agrees-set s l a i _ _ (merge-holds (start i) (s .tables i) (l .rows i) (a .tables i) (start j) (s .tables j) (l .rows j) (a .tables j))
     step-agrees (ask i q) b = a
 
     answer-is : (c : Call) → answer s c ≡ answerRows lens l c
     unfolding answer answerRows
-    answer-is (add i ks vs work) = ap groupsAre (add-outcome (start i) (s .tables i) (l .rows i) (a .tables i) ks vs work)
+    answer-is (add i kind ks vs work) = ap groupsAre (add-outcome (start i) (s .tables i) (l .rows i) (a .tables i) kind ks vs work)
     answer-is (merge i j d) =
         ap groupsAre (merge-outcome (start i) (s .tables i) (l .rows i) (a .tables i) (start j) (s .tables j) (l .rows j) (a .tables j))
     answer-is (ask i q) = ask-is (s .tables i) (l .rows i) (sound-is (start i) (s .tables i) (l .rows i) (a .tables i)) (a .tables i .holds) q
@@ -67,7 +67,7 @@ module _ (start : ℕ → List ℕ) where
 -- ---- no answer is 7
 answer-not-7 : (len : ℕ → ℕ) (l : Ledger) (c : Call) → refuses 7 (answerRows len l c) ≡ false
 unfolding answerRows addRowsGrounds mergeRowsGrounds
-answer-not-7 len l (add i ks vs work) = not-given 7 (addRowsGrounds (len i) (l .rows i) ks vs work) _ refl
+answer-not-7 len l (add i kind ks vs work) = not-given 7 (addRowsGrounds kind (len i) (l .rows i) ks vs work) _ refl
 answer-not-7 len l (merge i j d) = not-given 7 (mergeRowsGrounds (len i) (l .rows i) (l .rows j)) _ refl
 answer-not-7 len l (ask i q) = ask-not-7 (l .rows i) q
 

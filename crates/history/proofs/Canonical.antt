@@ -10,7 +10,7 @@ use borrow.Author.Tests.{eq-eqb, ne-eqb, lt-ltb, le-ltb}
 use lib.Dec.{eqb}
 use Rattle.level.specs.Level.{topOf}
 use Rattle.record.specs.Section.{Section, find}
-use Rattle.patch.specs.Rows.{Row}
+use Rattle.columns.specs.Columns.{Row}
 use Rattle.table.specs.Combine.{ofRow, absorb, merged, added}
 use Rattle.table.proofs.Lookup.{Above, Rising, keysIn, Tri, less, same, more, tri, find-nil, find-head, find-tail, find-ext, absorb-rising, merged-rising, join, only, only-is, only-not, find-absorb, find-merged}
 use Rattle.history.specs.Rows.{valuesOf, insertKey, sectionNumbers}

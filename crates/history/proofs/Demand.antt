@@ -8,7 +8,7 @@ use native.Mathlib.Omega.{arith}
 use lib.ListN.{length, drop, take}
 use lib.Seq.{take-at}
 use Rattle.level.specs.Level.{topOf}
-use Rattle.patch.specs.Rows.{Row}
+use Rattle.columns.specs.Columns.{Row}
 use Rattle.record.specs.Sound.{sound}
 use Rattle.record.specs.Section.{sectionBytes, find}
 use Rattle.lists.specs.Lists.{anyOf}

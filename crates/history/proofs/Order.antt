@@ -8,7 +8,7 @@ use native.Mathlib.Omega.{arith}
 use native.Mathlib.Decide.{ℕ-discrete}
 use borrow.Author.Tests.{eq-eqb, ne-eqb}
 use Rattle.record.specs.Section.{Section}
-use Rattle.patch.specs.Rows.{Row}
+use Rattle.columns.specs.Columns.{Row}
 use Rattle.table.proofs.Lookup.{join, join-assoc}
 use Rattle.history.specs.Rows.{equalRows, occurs, SameRows, valuesOf}
 use Rattle.history.specs.Canonical.{sectionIf, canonical}

@@ -11,7 +11,7 @@ use Rattle.record.specs.Section.{Section, sections, kept}
 use Rattle.finish.specs.Finish.{finishing, sumOf, figureOf, lineOf, figureFor}
 use Rattle.finish.specs.Sum.{tooLarge}
 use Rattle.finish.specs.Figure.{beyond}
-use Rattle.patch.specs.Rows.{Row}
+use Rattle.columns.specs.Columns.{Row}
 use Rattle.history.specs.Rows.{SameRows, valuesOf}
 use Rattle.history.specs.Canonical.{sectionIf, canonical}
 use Rattle.history.specs.Calls.{Question, sum, figure, line}

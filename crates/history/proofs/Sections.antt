@@ -9,7 +9,7 @@ use lib.ListN.{length, length-append}
 use lib.IntN.{pos, _+ℤ_, +ℤ-idr}
 use Rattle.level.specs.Level.{top, contribution, topOf, total}
 use Rattle.level.proofs.Section.{topOf-append, total-append, total-above}
-use Rattle.patch.specs.Rows.{Row}
+use Rattle.columns.specs.Columns.{Row}
 use Rattle.table.specs.Combine.{ofRow, levelOf, combine}
 use Rattle.table.proofs.Combine.{levelOf-at, sectionAt-cong, combine-at, combine-comm}
 use Rattle.table.proofs.Lookup.{join, join-none}

@@ -13,12 +13,13 @@ use lib.ListN.{length, length-map}
 use Rattle.codec.specs.Cells.{cells, image}
 use Rattle.codec.proofs.Laws.{AreBytes}
 use Rattle.refusal.specs.Outcome.{Outcome, accepted, refused}
-use Rattle.patch.specs.Rows.{Row, rowsOf}
+use Rattle.columns.specs.declared.Kind.{Kind}
+use Rattle.columns.specs.Columns.{Row, rowsOf}
 use Rattle.record.specs.Layout.{capacity}
 use Rattle.record.specs.Sound.{sound}
 use Rattle.record.specs.Section.{Section, sections, written}
 use Rattle.table.specs.Combine.{added, merged}
-use Rattle.table.specs.Calls.{overfull, leaves, addSections, addGrounds, addOutcome, mergeSections, mergeGrounds, mergeOutcome}
+use Rattle.table.specs.Calls.{overfull, leaves, addSections, columnGrounds, addGrounds, addOutcome, mergeSections, mergeGrounds, mergeOutcome}
 use Rattle.lists.specs.Lists.{anyOf}
 use Rattle.lists.proofs.Booleans.{and-true}
 use Rattle.lists.proofs.All.{any-map}
@@ -85,28 +86,28 @@ module _ (start : List ℕ) (t : Store) (rows : List Row) (h : Holds start t row
       }
   after-holds new ts e (refused n) f = h
 
-  module _ (ks vs : List ℕ) (work : ℕ) where
-    pub add-outcome : addOutcome (t .bytes) (t .groups) ks vs work ≡ addRowsOutcome (length start) rows ks vs work
-    unfolding addGrounds addRowsGrounds
+  module _ (kind : Kind) (ks vs : List ℕ) (work : ℕ) where
+    pub add-outcome : addOutcome kind (t .bytes) (t .groups) ks vs work ≡ addRowsOutcome kind (length start) rows ks vs work
+    unfolding addGrounds columnGrounds addRowsGrounds
     add-outcome =
         rw (
           sound-is,
           h .holds,
           h .size,
-          added-canonical rows (rowsOf 8 ks vs),
-          few-canonical (rows ++ rowsOf 8 ks vs),
-          room-canonical (length start) (rows ++ rowsOf 8 ks vs),
-          length-canonical (rows ++ rowsOf 8 ks vs),
+          added-canonical rows (rowsOf kind ks vs),
+          few-canonical (rows ++ rowsOf kind ks vs),
+          room-canonical (length start) (rows ++ rowsOf kind ks vs),
+          length-canonical (rows ++ rowsOf kind ks vs),
         )
 
     pub add-holds : (areBytes ks && areBytes vs) ≡ true
-        → Holds start (afterAdd t ks vs work) (extended (addRowsOutcome (length start) rows ks vs work) rows (rowsOf 8 ks vs))
+        → Holds start (afterAdd kind t ks vs work) (extended (addRowsOutcome kind (length start) rows ks vs work) rows (rowsOf kind ks vs))
     add-holds b =
-        subst (λ (o : Outcome ℕ). Holds start (afterAdd t ks vs work) (extended o rows (rowsOf 8 ks vs))) add-outcome
-        (after-holds (rowsOf 8 ks vs) (addSections (t .bytes) (t .groups) ks vs)
-        (ap (λ (ts : List Section). added ts (rowsOf 8 ks vs)) (h .holds) ∙ added-canonical rows (rowsOf 8 ks vs))
-        (addOutcome (t .bytes) (t .groups) ks vs work)
-        (λ n. add-left (t .bytes) (t .groups) (h .table) ks vs work (are-bytes ks (and-true (areBytes ks) (areBytes vs) b .0))))
+        subst (λ (o : Outcome ℕ). Holds start (afterAdd kind t ks vs work) (extended o rows (rowsOf kind ks vs))) add-outcome
+        (after-holds (rowsOf kind ks vs) (addSections kind (t .bytes) (t .groups) ks vs)
+        (ap (λ (ts : List Section). added ts (rowsOf kind ks vs)) (h .holds) ∙ added-canonical rows (rowsOf kind ks vs))
+        (addOutcome kind (t .bytes) (t .groups) ks vs work)
+        (λ n. add-left (t .bytes) (t .groups) (h .table) kind ks vs work (are-bytes ks (and-true (areBytes ks) (areBytes vs) b .0))))
 
   module _ (start′ : List ℕ) (u : Store) (others : List Row) (g : Holds start′ u others) where
     pub merge-outcome : mergeOutcome (t .bytes) (t .groups) (u .bytes) (u .groups) ≡ mergeRowsOutcome (length start) rows others

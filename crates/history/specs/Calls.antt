@@ -6,10 +6,10 @@ use lib.Dec.{T, ltb, eqb}
 use lib.ListN.{length}
 use lib.Pow.{areBytes}
 use Rattle.refusal.specs.Outcome.{Outcome, accepted, refused, Ground, ground, outcome}
-use Rattle.level.specs.Double.{finite}
-use Rattle.patch.specs.Rows.{Row, rowsOf, columnsFit}
+use Rattle.columns.specs.declared.Kind.{Kind}
+use Rattle.columns.specs.Columns.{Row, rowsOf}
 use Rattle.record.specs.Layout.{capacity}
-use Rattle.table.specs.Calls.{mostRows}
+use Rattle.table.specs.Calls.{mostRows, lentGrounds}
 use Rattle.lists.specs.Lists.{anyOf}
 use Rattle.history.specs.Rows.{valuesOf, sectionNumbers}
 
@@ -17,16 +17,16 @@ use Rattle.history.specs.Rows.{valuesOf, sectionNumbers}
 pub data Question : Type 0 where
   sum figure line : (key : ℕ) → Question
 
--- a call on tables named by numbers: an add of two columns to table i, with the length of the lent work buffer; a merge of table j into a different
--- table i; a question about table i
+-- a call on tables named by numbers: an add of two columns with values of some kind to table i, with the length of the lent work buffer; a merge
+-- of table j into a different table i; a question about table i
 pub data Call : Type 0 where
-  add : (i : ℕ) (keys values : List ℕ) (work : ℕ) → Call
+  add : (i : ℕ) (kind : Kind) (keys values : List ℕ) (work : ℕ) → Call
   merge : (i j : ℕ) → T (not (eqb i j)) → Call
   ask : (i : ℕ) → Question → Call
 
 -- the columns that a call lends hold bytes
 abbrev pub lendsBytes : Call → Bool
-lendsBytes (add i ks vs work) = areBytes ks && areBytes vs
+lendsBytes (add i kind ks vs work) = areBytes ks && areBytes vs
 lendsBytes (merge i j d) = true
 lendsBytes (ask i q) = true
 
@@ -40,23 +40,21 @@ tooManyRows rows = anyOf (λ k. ltb mostRows (length (valuesOf k rows))) (sectio
 unfoldable pub tooManyKeys : ℕ → List Row → Bool
 tooManyKeys len rows = ltb (capacity len) (length (sectionNumbers rows))
 
+-- the conditions on the rows that a table of len bytes is to hold: 11 and 12
+abbrev pub rowsGrounds : ℕ → List Row → List Ground
+rowsGrounds len rows = ground 11 (tooManyRows rows) ∷ ground 12 (tooManyKeys len rows) ∷ []
+
 -- document 01's conditions of an add to a table with these rows, in their order
-unfoldable pub addRowsGrounds : ℕ → List Row → List ℕ → List ℕ → ℕ → List Ground
-addRowsGrounds len rows ks vs work =
-    ground 8 (ltb work len)
-    ∷ ground 9 (not (columnsFit 8 ks vs))
-    ∷ ground 10 (anyOf (λ (r : Row). not (finite (r .bits))) (rowsOf 8 ks vs))
-    ∷ ground 11 (tooManyRows (rows ++ rowsOf 8 ks vs))
-    ∷ ground 12 (tooManyKeys len (rows ++ rowsOf 8 ks vs))
-    ∷ []
+unfoldable pub addRowsGrounds : Kind → ℕ → List Row → List ℕ → List ℕ → ℕ → List Ground
+addRowsGrounds kind len rows ks vs work = lentGrounds kind len ks vs work ++ rowsGrounds len (rows ++ rowsOf kind ks vs)
 
 -- an accepted add gives the number of distinct section numbers
-abbrev pub addRowsOutcome : ℕ → List Row → List ℕ → List ℕ → ℕ → Outcome ℕ
-addRowsOutcome len rows ks vs work = outcome (addRowsGrounds len rows ks vs work) (length (sectionNumbers (rows ++ rowsOf 8 ks vs)))
+abbrev pub addRowsOutcome : Kind → ℕ → List Row → List ℕ → List ℕ → ℕ → Outcome ℕ
+addRowsOutcome kind len rows ks vs work = outcome (addRowsGrounds kind len rows ks vs work) (length (sectionNumbers (rows ++ rowsOf kind ks vs)))
 
 -- document 01's conditions of a merge of a table with the rows `others` into one with these rows, in their order
 unfoldable pub mergeRowsGrounds : ℕ → List Row → List Row → List Ground
-mergeRowsGrounds len rows others = ground 11 (tooManyRows (rows ++ others)) ∷ ground 12 (tooManyKeys len (rows ++ others)) ∷ []
+mergeRowsGrounds len rows others = rowsGrounds len (rows ++ others)
 
 -- an accepted merge gives the number of distinct section numbers
 abbrev pub mergeRowsOutcome : ℕ → List Row → List Row → Outcome ℕ
@@ -83,7 +81,7 @@ extended (refused n) rows new = rows
 
 -- the ledger after one call
 unfoldable pub stepRows : (ℕ → ℕ) → Ledger → Call → Ledger
-stepRows len l (add i ks vs work) = setRows i (extended (addRowsOutcome (len i) (l .rows i) ks vs work) (l .rows i) (rowsOf 8 ks vs)) l
+stepRows len l (add i kind ks vs work) = setRows i (extended (addRowsOutcome kind (len i) (l .rows i) ks vs work) (l .rows i) (rowsOf kind ks vs)) l
 stepRows len l (merge i j d) = setRows i (extended (mergeRowsOutcome (len i) (l .rows i) (l .rows j)) (l .rows i) (l .rows j)) l
 stepRows len l (ask i q) = l
 

@@ -5,7 +5,7 @@ use mathlib.Core.Option.{Option, none, some}
 use lib.ListN.{length}
 use Rattle.level.specs.Level.{topOf, total}
 use Rattle.record.specs.Section.{Section, sectionAt}
-use Rattle.patch.specs.Rows.{Row}
+use Rattle.columns.specs.Columns.{Row}
 use Rattle.history.specs.Rows.{valuesOf, sectionNumbers}
 
 -- section k of rows with the bits bs, held at top t: their number, t, and the sums of their contributions to the levels t, t - 1 and t - 2

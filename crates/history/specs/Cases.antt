@@ -7,7 +7,8 @@ use Rattle.codec.specs.Bytes.{number, bytes, numberAt}
 use Rattle.codec.specs.Cells.{cells, image}
 use Rattle.refusal.specs.Outcome.{accepted, refused}
 use Rattle.level.specs.Level.{topFrom, top, given, contribution, topOf, total}
-use Rattle.patch.specs.Rows.{Row, rowsFrom, columnsFit, rowsOf}
+use Rattle.columns.specs.declared.Kind.the-variants.{Double}
+use Rattle.columns.specs.Columns.{Row, rowsFrom, columnsFit, rowsOf}
 use Rattle.record.specs.Section.{Section, sections, written, find, kept}
 use Rattle.finish.specs.Sum.{tooLarge, nearestDouble}
 use Rattle.finish.specs.Figure.{millFigure, beyond}
@@ -17,7 +18,7 @@ use Rattle.record.specs.Layout.{encode, decode}
 use Rattle.record.specs.Keys.{rising}
 use Rattle.record.specs.Sound.{soundHeld, isZero, soundRecord, soundRecords, sound}
 use Rattle.table.specs.Combine.{ofRow, levelOf, combine, absorb, merged, added}
-use Rattle.table.specs.Calls.{addGrounds, mergeGrounds}
+use Rattle.table.specs.Calls.{addGrounds, columnGrounds, mergeGrounds}
 use Rattle.lists.specs.Lists.{anyOf}
 use Rattle.history.specs.Rows.{valuesOf, insertKey, sectionNumbers}
 use Rattle.history.specs.Canonical.{sectionAtTop, canonical}
@@ -34,11 +35,11 @@ start = record { tables = λ i. record { bytes = first; groups = 0 } }
 
 -- an add to table i of rows given by their keys and bits
 abbrev addTo : ℕ → List ℕ → List ℕ → Call
-addTo i ks vs = add i (image (bytes 4) ks) (image (bytes 8) vs) 128
+addTo i ks vs = add i Double (image (bytes 4) ks) (image (bytes 8) vs) 128
 
 -- an add that is refused, since three key bytes are no column
 abbrev refusedAdd : Call
-refusedAdd = add 0 (7 ∷ 0 ∷ 0 ∷ []) [] 128
+refusedAdd = add 0 Double (7 ∷ 0 ∷ 0 ∷ []) [] 128
 
 -- 1 and 2^60 in section 7, the smallest double in section 3
 abbrev rows : List Row
@@ -46,7 +47,7 @@ rows = record { key = 7; bits = 0x3FF0000000000000 } ∷ record { key = 3; bits 
 
 -- what a list of calls leaves in table 0
 left : List Call → Store
-unfolding stateAfter step answers answer askTable addGrounds mergeGrounds sound rising cells soundRecords soundRecord soundHeld isZero columnsFit image bytes anyOf rowsOf rowsFrom number numberAt added merged absorb combine levelOf ofRow top topFrom given contribution encode decode
+unfolding stateAfter step answers answer askTable addGrounds columnGrounds mergeGrounds sound rising cells soundRecords soundRecord soundHeld isZero columnsFit image bytes anyOf rowsOf rowsFrom number numberAt added merged absorb combine levelOf ofRow top topFrom given contribution encode decode
 left cs = stateAfter start cs .tables 0
 
 -- the same rows in one add, in another order, in two adds, merged from another table, merged the other way round, and with a refused add between

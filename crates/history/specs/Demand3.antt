@@ -7,7 +7,7 @@ use mathlib.Core.Option.{none, some}
 use lib.ListN.{length, take}
 use lib.IntN.{_-ℤ_, natAbs}
 use Rattle.level.specs.Level.{exactSum}
-use Rattle.patch.specs.Rows.{Row}
+use Rattle.columns.specs.Columns.{Row}
 use Rattle.record.specs.Sound.{sound}
 use Rattle.record.specs.Section.{Section, sections, written, find, kept}
 use Rattle.lists.specs.Lists.{anyOf}

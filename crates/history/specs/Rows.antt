@@ -5,7 +5,7 @@ use mathlib.Core.Bool.{Bool, cond, _&&_}
 use mathlib.Core.List.{List, [], _∷_}
 use lib.Dec.{ltb, eqb}
 use Rattle.level.specs.Double.{size}
-use Rattle.patch.specs.Rows.{Row}
+use Rattle.columns.specs.Columns.{Row}
 
 -- two rows have the same number and the same bits
 abbrev pub equalRows : Row → Row → Bool

@@ -7,7 +7,8 @@ use lib.Ieee.{Float}
 use Rattle.refusal.specs.Outcome.{Outcome, accepted, refused, isRefusal}
 use Rattle.finish.specs.declared.FinishedLine.{FinishedLine}
 use Rattle.finish.specs.Finish.{sumOf, figureOf, lineOf, sumOutcome, figureOutcome, lineOutcome}
-use Rattle.patch.specs.Rows.{Row}
+use Rattle.columns.specs.declared.Kind.{Kind}
+use Rattle.columns.specs.Columns.{Row}
 use Rattle.table.specs.Calls.{addOutcome, addLeaves, mergeOutcome, mergeLeaves}
 use Rattle.history.specs.Rows.{valuesOf}
 use Rattle.history.specs.Canonical.{sectionIf}
@@ -32,8 +33,8 @@ after (accepted n) s g = record { bytes = s; groups = n }
 after (refused n) s g = record { bytes = s; groups = g }
 
 -- the table t after an add
-abbrev pub afterAdd : Store → List ℕ → List ℕ → ℕ → Store
-afterAdd t ks vs work = after (addOutcome (t .bytes) (t .groups) ks vs work) (addLeaves (t .bytes) (t .groups) ks vs work) (t .groups)
+abbrev pub afterAdd : Kind → Store → List ℕ → List ℕ → ℕ → Store
+afterAdd kind t ks vs work = after (addOutcome kind (t .bytes) (t .groups) ks vs work) (addLeaves kind (t .bytes) (t .groups) ks vs work) (t .groups)
 
 -- the table t after a merge of u into it
 abbrev pub afterMerge : Store → Store → Store
@@ -42,7 +43,7 @@ afterMerge t u =
 
 -- the state after one call; a question changes nothing
 unfoldable pub step : State → Call → State
-step s (add i ks vs work) = setTable i (afterAdd (s .tables i) ks vs work) s
+step s (add i kind ks vs work) = setTable i (afterAdd kind (s .tables i) ks vs work) s
 step s (merge i j d) = setTable i (afterMerge (s .tables i) (s .tables j)) s
 step s (ask i q) = s
 
@@ -74,7 +75,7 @@ askRows rows (line k) = lineIs (lineOf (sectionIf k (valuesOf k rows)))
 
 -- what a call in this state answers
 unfoldable pub answer : State → Call → Answer
-answer s (add i ks vs work) = groupsAre (addOutcome (s .tables i .bytes) (s .tables i .groups) ks vs work)
+answer s (add i kind ks vs work) = groupsAre (addOutcome kind (s .tables i .bytes) (s .tables i .groups) ks vs work)
 answer s (merge i j d) = groupsAre (mergeOutcome (s .tables i .bytes) (s .tables i .groups) (s .tables j .bytes) (s .tables j .groups))
 answer s (ask i q) = askTable (s .tables i) q
 
@@ -85,7 +86,7 @@ answers s (c ∷ cs) = answer s c ∷ answers (step s c) cs
 
 -- what a call is to answer by the ledger alone
 unfoldable pub answerRows : (ℕ → ℕ) → Ledger → Call → Answer
-answerRows len l (add i ks vs work) = groupsAre (addRowsOutcome (len i) (l .rows i) ks vs work)
+answerRows len l (add i kind ks vs work) = groupsAre (addRowsOutcome kind (len i) (l .rows i) ks vs work)
 answerRows len l (merge i j d) = groupsAre (mergeRowsOutcome (len i) (l .rows i) (l .rows j))
 answerRows len l (ask i q) = askRows (l .rows i) q
 

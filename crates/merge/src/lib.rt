@@ -148,10 +148,7 @@ fn decide(first: &[u8], g1: usize, second: &[u8], g2: usize) -> TableAnswer
         return TableAnswer::Refused(Refusal::TooManyRows);
     }
     let groups = u.groups;
-    if first.len() / 64 < groups {
-        return TableAnswer::Refused(Refusal::TooManyKeys);
-    }
-    if 1024 < groups {
+    if record::capacity(first.len()) < groups {
         return TableAnswer::Refused(Refusal::TooManyKeys);
     }
     TableAnswer::Groups(groups)

@@ -1,5 +1,3 @@
 -- Laws of the patch file and of its columns.
-pub mod Grounds
 pub mod File
-pub mod Rows
 pub mod Columns

@@ -6,7 +6,7 @@ ghost use mathlib.Core.List.{_∷_, _++_};
 ghost use lib.ListN.{length, take, drop};
 ghost use lib.Seq.{sets};
 ghost use lib.Dec.{T, ltb, leb};
-ghost use Rattle.record.specs.Layout.{heldAt, recordAt, encodeHeld, encode, decode, records};
+ghost use Rattle.record.specs.Layout.{heldAt, recordAt, encodeHeld, encode, decode, records, capacity as roomFor};
 ghost use Rattle.record.specs.Keys.{keys, rising, place};
 ghost use Rattle.record.specs.Sound.{soundHeld, isZero, soundRecord, soundRecords, sound};
 use level::Held;
@@ -195,14 +195,19 @@ fn records_sound(t: &[u8], g: usize) -> bool
     true
 }
 
+// How many groups a buffer of n bytes has room for.
+pub fn capacity(n: usize) -> usize
+    ensures { λ r. ⌜ r ≡ roomFor n ⌝ }
+{
+    let all = n / 64;
+    if all < 1024 { all } else { 1024 }
+}
+
 // Whether the bytes hold a sound table of g records.
 pub fn is_sound(t: &[u8], g: usize) -> bool
     ensures { λ r. ⌜ r ≡ sound (now (t .entry)) g ⌝ }
 {
-    if t.len() / 64 < g {
-        return false;
-    }
-    if 1024 < g {
+    if capacity(t.len()) < g {
         return false;
     }
     records_sound(t, g)

@@ -1,8 +1,8 @@
 -- What an outcome says of its grounds, each named by its number and not by its place in the list.
 use Prim.Native.Nat.{ℕ}
-use mathlib.Core.Path.{_≡_, refl}
+use mathlib.Core.Path.{_≡_, refl, sym, ap, _∙_}
 use mathlib.Core.Bool.{Bool, true, false, cond}
-use mathlib.Core.List.{List, [], _∷_}
+use mathlib.Core.List.{List, [], _∷_, _++_}
 use native.Mathlib.Omega.{arith}
 use lib.Dec.{eqb}
 use Rattle.lists.proofs.Booleans.{or-false}
@@ -32,6 +32,25 @@ accepted-not n (c ∷ cs) x e = let f = first c cs x e in by (eqb n (c .number))
 pub accepted-value : {A : Type 0} (gs : List Ground) (x : A) {y : A} → outcome gs x ≡ accepted y → x ≡ y
 accepted-value [] x e = cc
 accepted-value (c ∷ cs) x e = accepted-value cs x (first c cs x e .1)
+
+-- ---- further grounds
+
+-- what refuses a call refuses it with further grounds too
+pub refused-first : {A B : Type 0} (gs hs : List Ground) (x : A) (y : B) {n : ℕ} → outcome gs x ≡ refused n → outcome (gs ++ hs) y ≡ refused n
+refused-first [] hs x y e = absurd (accepted≢refused (sym e))
+refused-first (c ∷ cs) hs x y {n} e = go (c .holds) e (refused-first cs hs x y)
+  where
+    go : (b : Bool) → cond b (refused (c .number)) (outcome cs x) ≡ refused n → (outcome cs x ≡ refused n → outcome (cs ++ hs) y ≡ refused n)
+        → cond b (refused (c .number)) (outcome (cs ++ hs) y) ≡ refused n
+    go true q ih = ap refused cc
+    go false q ih = ih q
+
+-- where none of the first holds, the further ones decide
+pub accepted-first : {A B : Type 0} (gs hs : List Ground) (x : A) (y : B) {z : A} → outcome gs x ≡ accepted z → outcome (gs ++ hs) y ≡ outcome hs y
+accepted-first [] hs x y e = refl
+accepted-first (c ∷ cs) hs x y e =
+    let f = first c cs x e in
+    ap (λ (b : Bool). cond b (refused (c .number)) (outcome (cs ++ hs) y)) (f .0) ∙ accepted-first cs hs x y (f .1)
 
 -- a number that no ground has is not given
 pub not-given : {A : Type 0} (n : ℕ) (gs : List Ground) (x : A) → isGround n gs ≡ false → isRefusal n (outcome gs x) ≡ false

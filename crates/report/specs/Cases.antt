@@ -9,7 +9,7 @@ use Rattle.codec.specs.Bytes.{number, bytes, numberAt}
 use Rattle.codec.specs.Cells.{cells, image}
 use Rattle.level.specs.Level.{top, topFrom, given, contribution}
 use Rattle.patch.specs.File.{mark, marked, outside, overlap, readGrounds, readOutcome, column, keyColumn, valueColumn}
-use Rattle.patch.specs.Rows.{rowsFrom, rowsOf, columnsFit}
+use Rattle.columns.specs.Columns.{rowsFrom, rowsOf, columnsFit}
 use Rattle.record.specs.Keys.{rising}
 use Rattle.record.specs.Sound.{sound, soundRecords}
 use Rattle.record.specs.Section.{kept}

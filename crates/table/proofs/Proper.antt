@@ -11,7 +11,7 @@ use Rattle.integers.proofs.Laws.{natAbs-+ℤ}
 use Rattle.level.specs.Level.{below, top, contribution}
 use Rattle.level.proofs.Top.{top-le, contribution-bound}
 use Rattle.record.specs.Section.{Section, sectionAt}
-use Rattle.patch.specs.Rows.{Row}
+use Rattle.columns.specs.Columns.{Row}
 use Rattle.table.specs.Combine.{ofRow, levelOf, combine, absorb, merged, added}
 use Rattle.lists.proofs.All.{All}
 use Rattle.table.proofs.Lookup.{absorb-cases, added-merged}

@@ -1,4 +1,4 @@
-// Sections combined by value: what adding a row and merging two records do.
+// What adding and merging share: the tests of two columns, and sections combined by value.
 ghost use mathlib.Core.Path.{_≡_};
 ghost use Prim.Native.Nat.{_+_, _≤_, _<_, _^_, max};
 ghost use lib.Dec.{T};
@@ -8,7 +8,10 @@ ghost use Rattle.level.specs.Carry.{heldOf};
 ghost use Rattle.record.specs.Sound.{soundRecord};
 ghost use Rattle.record.specs.Section.{meaning, recordOf};
 ghost use Rattle.table.specs.Combine.{ofRow, levelOf, combine};
+ghost use Rattle.table.specs.Calls.{columnOutcome};
+ghost use Rattle.table.specs.Answer.{checkAnswer};
 ghost use Rattle.table.specs.Steps.{heldIn, bothAt};
+use columns::Kind;
 use level::Held;
 use record::Record;
 use refusal::Refusal;
@@ -17,6 +20,38 @@ use refusal::Refusal;
 pub enum TableAnswer {
     Groups(usize),
     Refused(Refusal),
+}
+
+// Whether two columns can be brought to a table, or why not.
+pub enum ColumnCheck {
+    Good,
+    Refused(Refusal),
+}
+
+// The tests that every call makes that takes columns, in document 01's order: 7 to 10.
+pub fn check_columns(
+    table: &[u8],
+    g: usize,
+    keys: &[u8],
+    values: &[u8],
+    kind: Kind,
+    work: usize,
+) -> ColumnCheck
+    ensures { λ r. ⌜ checkAnswer r ≡ columnOutcome kind (now (table .entry)) g (now (keys .entry)) (now (values .entry)) work ⌝ }
+{
+    if !record::is_sound(table, g) {
+        return ColumnCheck::Refused(Refusal::TableNotSound);
+    }
+    if work < table.len() {
+        return ColumnCheck::Refused(Refusal::WorkTooShort);
+    }
+    if !columns::columns_fit(keys, values, kind) {
+        return ColumnCheck::Refused(Refusal::ColumnLengths);
+    }
+    if columns::any_not_finite(values, kind) {
+        return ColumnCheck::Refused(Refusal::RowNotFinite);
+    }
+    ColumnCheck::Good
 }
 
 // A level that holds nothing.

@@ -41,30 +41,25 @@ returns-3 c =
     let a = p .before .before .before .before .before .before .args in
     too-many-rows (a .first .now) (a .g1) (a .second .now) (a .g2) (first-sound (p .before .before)) (second-sound p) (sym (c .before .united .ensures .1) ∙ c .if3 .taken)
 
+capacity-requires : tie.Need-capacity-requires
+capacity-requires c κs = search needs
+
 returns-4 : tie.Need-returns-4
 returns-4 c =
-    let u = c .before .before in
+    let u = c .before .before .before in
     let p = u .before in
     let a = p .before .before .before .before .before .before .args in
-    too-many-keys (a .first .now) (a .g1) (a .second .now) (a .g2) (first-sound (p .before .before)) (second-sound p) (sym (u .united .ensures .1) ∙ c .before .if3 .left)
-    (omega (arith, u .united .ensures .0, c .if4 .taken))
+    too-many-keys (a .first .now) (a .g1) (a .second .now) (a .g2) (first-sound (p .before .before)) (second-sound p) (sym (u .united .ensures .1) ∙ c .before .before .if3 .left)
+    (omega (arith, u .united .ensures .0, c .before .capacity .ensures, c .if4 .taken))
 
 returns-5 : tie.Need-returns-5
 returns-5 c =
     let u = c .before .before .before in
     let p = u .before in
     let a = p .before .before .before .before .before .before .args in
-    too-many-keys (a .first .now) (a .g1) (a .second .now) (a .g2) (first-sound (p .before .before)) (second-sound p) (sym (u .united .ensures .1) ∙ c .before .before .if3 .left)
-    (omega (arith, u .united .ensures .0, c .if5 .taken))
-
-returns-6 : tie.Need-returns-6
-returns-6 c =
-    let u = c .before .before .before in
-    let p = u .before in
-    let a = p .before .before .before .before .before .before .args in
     ap accepted (u .united .ensures .0)
     ∙ fitting (a .first .now) (a .g1) (a .second .now) (a .g2) (first-sound (p .before .before)) (second-sound p) (sym (u .united .ensures .1) ∙ c .before .before .if3 .left)
-    (omega (arith, u .united .ensures .0, c .if5 .left, c .before .if4 .left))
+    (omega (arith, u .united .ensures .0, c .before .capacity .ensures, c .if4 .left))
 
 pub decide-spec : {M : Type 1} → statement M
 decide-spec =
@@ -76,6 +71,6 @@ decide-spec =
     returns-2
     united-requires
     returns-3
+    capacity-requires
     returns-4
-    returns-5
-    returns-6)
+    returns-5)

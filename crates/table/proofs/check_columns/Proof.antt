@@ -1,0 +1,94 @@
+-- `check_columns` makes the tests of 7 to 10 in their order.
+use Prim.Native.Nat.{ℕ}
+use mathlib.Core.Path.{_≡_, sym, ap, _∙_}
+use mathlib.Core.Bool.{true, false}
+use borrow.Author.Needs.{needs}
+use borrow.Author.Tests.{not-true, not-false, lt-ltb, le-ltb}
+use lib.Dec.{ltb}
+use lib.ListN.{length}
+use Rattle.columns.specs.Columns.{columnsFit}
+use Rattle.columns.proofs.Cells.{any-bits}
+use Rattle.record.specs.Sound.{sound}
+use Rattle.table.specs.Calls.{columnGrounds}
+use Rattle.table.proofs.check_columns.Statement.{statement}
+use Rattle.table.proofs.check_columns.Tie as tie
+
+-- what each test that was passed says
+module _ (c : tie.Else1) where
+  abbrev start : tie.Start
+  start = c .before .before .before .before .before
+
+  sound-here : sound (start .args .table .now) (start .args .g) ≡ true
+  sound-here = sym (c .before .is-sound .ensures) ∙ not-false (c .before .is-sound .result) (c .if1 .left)
+
+long-here : (c : tie.Else2) → ltb (start (c .before) .args .work) (length (start (c .before) .args .table .now)) ≡ false
+long-here c = le-ltb (start (c .before) .args .work) (length (start (c .before) .args .table .now)) (c .if2 .left)
+
+fit-here : (c : tie.Else3) → columnsFit (start (c .before .before .before) .args .kind) (start (c .before .before .before) .args .keys .now) (start (c .before .before .before) .args .values .now) ≡ true
+fit-here c = sym (c .before .columns-fit .ensures) ∙ not-false (c .before .columns-fit .result) (c .if3 .left)
+
+is-sound-requires : tie.Need-is-sound-requires
+is-sound-requires c κs = search needs
+
+returns : tie.Need-returns
+unfolding columnGrounds
+returns c = rw (← c .before .is-sound .ensures, not-true (c .before .is-sound .result) (c .if1 .taken))
+
+returns-2 : tie.Need-returns-2
+unfolding columnGrounds
+returns-2 c =
+    let a = start (c .before) .args in
+    rw (sound-here (c .before), lt-ltb (a .work) (length (a .table .now)) (c .if2 .taken))
+
+columns-fit-requires : tie.Need-columns-fit-requires
+columns-fit-requires c κs = search needs
+
+returns-3 : tie.Need-returns-3
+unfolding columnGrounds
+returns-3 c =
+    let d = c .before .before in
+    rw (sound-here (d .before), long-here d, ← c .before .columns-fit .ensures, not-true (c .before .columns-fit .result) (c .if3 .taken))
+
+any-not-finite-requires : tie.Need-any-not-finite-requires
+any-not-finite-requires c κs = search needs
+
+returns-4 : tie.Need-returns-4
+unfolding columnGrounds
+returns-4 c =
+    let d = c .before .before in
+    let a = start (d .before .before .before) .args in
+    rw (
+      sound-here (d .before .before .before),
+      long-here (d .before .before),
+      fit-here d,
+      any-bits (a .kind) (a .keys .now) (a .values .now) (fit-here d),
+      ← c .before .any-not-finite .ensures,
+      c .if4 .taken,
+    )
+
+returns-5 : tie.Need-returns-5
+unfolding columnGrounds
+returns-5 c =
+    let d = c .before .before in
+    let a = start (d .before .before .before) .args in
+    rw (
+      sound-here (d .before .before .before),
+      long-here (d .before .before),
+      fit-here d,
+      any-bits (a .kind) (a .keys .now) (a .values .now) (fit-here d),
+      ← c .before .any-not-finite .ensures,
+      c .if4 .left,
+    )
+
+pub check-columns-spec : {M : Type 1} → statement M
+check-columns-spec =
+    tie.close
+    (tie.spec
+    is-sound-requires
+    returns
+    returns-2
+    columns-fit-requires
+    returns-3
+    any-not-finite-requires
+    returns-4
+    returns-5)
