@@ -11,6 +11,7 @@ use lib.Seq.{length-take-le}
 use Rattle.codec.specs.Cells.{image}
 use Rattle.codec.proofs.Laws.{AreBytes}
 use Rattle.refusal.specs.Outcome.{accepted, refused}
+use Rattle.columns.specs.declared.Kind.the-variants.{Double}
 use Rattle.patch.specs.File.{readOutcome, keyColumn, valueColumn}
 use Rattle.record.specs.Section.{sections}
 use Rattle.table.specs.Calls.{addSections, addOutcome, addLeaves}
@@ -21,26 +22,26 @@ use Rattle.report.specs.Answer.{printOutcome, printLeaves}
 use Rattle.report.specs.Steps.{Continued}
 
 -- what an accepted add to the empty table leaves
-pub columns-left : (ks vs : List ℕ) (g : ℕ) → AreBytes ks → addOutcome emptyTable 0 ks vs 4096 ≡ accepted g
-    → Left emptyTable (addSections emptyTable 0 ks vs) (addLeaves emptyTable 0 ks vs 4096) g
-columns-left ks vs g a e = add-left emptyTable 0 (proper-none emptyTable) ks vs 4096 a e
+pub columns-left : (ks vs : List ℕ) (g : ℕ) → AreBytes ks → addOutcome Double emptyTable 0 ks vs 4096 ≡ accepted g
+    → Left emptyTable (addSections Double emptyTable 0 ks vs) (addLeaves Double emptyTable 0 ks vs 4096) g
+columns-left ks vs g a e = add-left emptyTable 0 (proper-none emptyTable) Double ks vs 4096 a e
 
-pub columns-accepted : (ks vs : List ℕ) (g : ℕ) → AreBytes ks → addOutcome emptyTable 0 ks vs 4096 ≡ accepted g
-    → columnsText ks vs ≡ headLine ++ image lineText (sections (addLeaves emptyTable 0 ks vs 4096) g)
+pub columns-accepted : (ks vs : List ℕ) (g : ℕ) → AreBytes ks → addOutcome Double emptyTable 0 ks vs 4096 ≡ accepted g
+    → columnsText Double ks vs ≡ headLine ++ image lineText (sections (addLeaves Double emptyTable 0 ks vs 4096) g)
 unfolding columnsText addText
 columns-accepted ks vs g a e =
-    ap (λ o. addText o (addSections emptyTable 0 ks vs)) e
+    ap (λ o. addText o (addSections Double emptyTable 0 ks vs)) e
     ∙ ap (λ ts. headLine ++ image lineText ts) (sym (columns-left ks vs g a e .holds))
 
-pub columns-refused : (ks vs : List ℕ) (n : ℕ) → addOutcome emptyTable 0 ks vs 4096 ≡ refused n → columnsText ks vs ≡ refusal n ++ lineFeed
+pub columns-refused : (ks vs : List ℕ) (n : ℕ) → addOutcome Double emptyTable 0 ks vs 4096 ≡ refused n → columnsText Double ks vs ≡ refusal n ++ lineFeed
 unfolding columnsText addText
-columns-refused ks vs n e = ap (λ o. addText o (addSections emptyTable 0 ks vs)) e
+columns-refused ks vs n e = ap (λ o. addText o (addSections Double emptyTable 0 ks vs)) e
 
-pub file-accepted : (f : List ℕ) (n : ℕ) → readOutcome 8 f ≡ accepted n → reportText f ≡ columnsText (keyColumn 8 f) (valueColumn 8 f)
+pub file-accepted : (f : List ℕ) (n : ℕ) → readOutcome Double f ≡ accepted n → reportText f ≡ columnsText Double (keyColumn Double f) (valueColumn Double f)
 unfolding reportText fileText
 file-accepted f n e = ap (λ o. fileText o f) e
 
-pub file-refused : (f : List ℕ) (n : ℕ) → readOutcome 8 f ≡ refused n → reportText f ≡ refusal n ++ lineFeed
+pub file-refused : (f : List ℕ) (n : ℕ) → readOutcome Double f ≡ refused n → reportText f ≡ refusal n ++ lineFeed
 unfolding reportText fileText
 file-refused f n e = ap (λ o. fileText o f) e
 

@@ -16,7 +16,7 @@ use Rattle.record.specs.Section.{kept}
 use Rattle.finish.specs.Sum.{nearestDouble, tooLarge}
 use Rattle.finish.specs.Figure.{millFigure, beyond}
 use Rattle.table.specs.Combine.{ofRow, levelOf, combine, absorb, added}
-use Rattle.table.specs.Calls.{addGrounds}
+use Rattle.table.specs.Calls.{addGrounds, columnGrounds}
 use Rattle.lists.specs.Lists.{anyOf}
 use Rattle.report.specs.Numerals.{digit, digits, decimalIn, decimal, integer, hexadecimal}
 use Rattle.report.specs.Text.{headLine, refusal, figureField, lastFields, lineWith, lineText, addText, columnsText, fileText, reportText}
@@ -117,5 +117,5 @@ infiniteText =
 
 reports : map reportText (sample ∷ mixed ∷ file [] [] ∷ [] ∷ file (1 ∷ []) (0x7FF0000000000000 ∷ []) ∷ [])
     ≡ sampleText ∷ mixedText ∷ headText ∷ refusedText ∷ infiniteText ∷ []
-unfolding sample sampleText file mixed mixedText headText refusedText infiniteText reportText fileText columnsText addText lineText lineWith lastFields figureField refusal headLine decimal decimalIn digit digits integer number bytes numberAt cells image marked outside overlap readGrounds readOutcome column keyColumn valueColumn rowsFrom rowsOf columnsFit addGrounds anyOf ofRow levelOf combine absorb added top topFrom given contribution rising sound soundRecords kept nearestDouble tooLarge millFigure beyond round toBits ofBits
+unfolding sample sampleText file mixed mixedText headText refusedText infiniteText reportText fileText columnsText addText lineText lineWith lastFields figureField refusal headLine decimal decimalIn digit digits integer number bytes numberAt cells image marked outside overlap readGrounds readOutcome column keyColumn valueColumn rowsFrom rowsOf columnsFit addGrounds columnGrounds anyOf ofRow levelOf combine absorb added top topFrom given contribution rising sound soundRecords kept nearestDouble tooLarge millFigure beyond round toBits ofBits
 reports = refl

@@ -7,6 +7,8 @@ use lib.ListN.{replicate}
 use lib.Ieee.{Float, binary64, toBits}
 use Rattle.codec.specs.Cells.{image}
 use Rattle.refusal.specs.Outcome.{Outcome, accepted, refused}
+use Rattle.columns.specs.declared.Kind.{Kind}
+use Rattle.columns.specs.declared.Kind.the-variants.{Double}
 use Rattle.patch.specs.File.{readOutcome, keyColumn, valueColumn}
 use Rattle.record.specs.Section.{Section}
 use Rattle.finish.specs.Finish.{sumOf, figureOf}
@@ -65,14 +67,14 @@ addText (accepted g) ts = headLine ++ image lineText ts
 addText (refused n) ts = refusal n ++ lineFeed
 
 -- what the add of two columns to an empty table prints
-unfoldable pub columnsText : List ℕ → List ℕ → List ℕ
-columnsText ks vs = addText (addOutcome emptyTable 0 ks vs 4096) (addSections emptyTable 0 ks vs)
+unfoldable pub columnsText : Kind → List ℕ → List ℕ → List ℕ
+columnsText kind ks vs = addText (addOutcome kind emptyTable 0 ks vs 4096) (addSections kind emptyTable 0 ks vs)
 
 -- what a file prints: only its refusal, or what the add of its columns prints
 unfoldable pub fileText : Outcome ℕ → List ℕ → List ℕ
-fileText (accepted n) f = columnsText (keyColumn 8 f) (valueColumn 8 f)
+fileText (accepted n) f = columnsText Double (keyColumn Double f) (valueColumn Double f)
 fileText (refused n) f = refusal n ++ lineFeed
 
 -- the report of a file
 unfoldable pub reportText : List ℕ → List ℕ
-reportText f = fileText (readOutcome 8 f) f
+reportText f = fileText (readOutcome Double f) f

@@ -14,6 +14,7 @@ ghost use Rattle.record.specs.Sound.{sound, soundRecord};
 ghost use Rattle.finish.specs.Answer.{sumAnswer};
 ghost use Rattle.finish.specs.Steps.{FiniteSum};
 ghost use Rattle.report.specs.Numerals.{digit, digits, decimal, integer, hexadecimal};
+ghost use Rattle.columns.specs.declared.Kind.the-variants.{Double};
 ghost use Rattle.report.specs.Text.{space, lineFeed, refusal, lastFields, lineWith, lineText, headLine, columnsText, reportText};
 ghost use Rattle.report.specs.Answer.{printedAnswer, printOutcome, printLeaves};
 ghost use Rattle.report.specs.Steps.{Continued};
@@ -246,7 +247,7 @@ fn print_refused(text: &mut [u8], n: u32) -> usize
 // What the columns print.
 fn print_columns(text: &mut [u8], keys: &[u8], values: &[u8]) -> usize
     requires { ⌜ 4096 ≤ length (now text) ⌝ }
-    ensures { λ r. ⌜ Continued (now (text .entry)) 0 (columnsText (now (keys .entry)) (now (values .entry))) 4096 (now (text .exit)) r ⌝ }
+    ensures { λ r. ⌜ Continued (now (text .entry)) 0 (columnsText Double (now (keys .entry)) (now (values .entry))) 4096 (now (text .exit)) r ⌝ }
 {
     let mut table = [0u8; 4096];
     let mut work = [0u8; 4096];

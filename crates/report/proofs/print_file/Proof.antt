@@ -38,7 +38,7 @@ returns c =
     let f = c .before .before .before .before .before .before .before .before .before .before .before .args .file .now in
     let n = c .before .before .before .before .before .before .enum-told .given in
     let e = sym (c .before .before .before .before .before .before .before .before .read .ensures) ∙ ap readAnswer (n .1) in
-    rw (file-accepted f (n .0 .0) e, ← c .before .before .before .before .keys .ensures, ← c .before .before .before .values .ensures) (c .before .before .print-columns .ensures)
+    rw (file-accepted f (n .0 .0) e, ← c .before .before .before .before .keys .ensures .0, ← c .before .before .before .values .ensures .0) (c .before .before .print-columns .ensures)
 
 same-length-2 : tie.Need-same-length-2
 same-length-2 c = search needs
