@@ -11,8 +11,8 @@ use Rattle.refusal.proofs.Outcomes.{not-given}
 use Rattle.columns.specs.Columns.{Row}
 use Rattle.lists.specs.Lists.{anyOf}
 use Rattle.lists.proofs.All.{All}
-use Rattle.history.specs.Calls.{Call, add, merge, ask, lendsBytes, addRowsGrounds, mergeRowsGrounds, Ledger, put, setRows, stepRows, ledgerAfter}
-use Rattle.history.specs.Run.{Store, State, setTable, step, stateAfter, groupsAre, answer, answers, answerRows, answersRows, refuses}
+use Rattle.history.specs.Calls.{Call, add, merge, ask, lendsBytes, addRowsGrounds, mergeRowsGrounds, Ledger, noRows, put, setRows, stepRows, ledgerAfter}
+use Rattle.history.specs.Run.{Store, State, noGroups, setTable, step, stateAfter, groupsAre, answer, answers, answerRows, answersRows, refuses}
 use Rattle.history.proofs.Questions.{ask-is, ask-not-7}
 use Rattle.history.proofs.Tables.{Holds, holds-none, sound-is, add-outcome, add-holds, merge-outcome, merge-holds}
 
@@ -21,10 +21,11 @@ pub record Agrees (start : ℕ → List ℕ) (s : State) (l : Ledger) : Type 0 w
   pub tables : (i : ℕ) → Holds (start i) (s .tables i) (l .rows i)
 
 module _ (start : ℕ → List ℕ) where
+  -- the lengths of the tables' buffers
   abbrev lens : ℕ → ℕ
   lens i = length (start i)
 
-  pub agrees-none : Agrees start (record { tables = λ i. record { bytes = start i; groups = 0 } }) (record { rows = λ i. [] })
+  pub agrees-none : Agrees start (noGroups start) noRows
   agrees-none = record { tables = λ i. holds-none (start i) }
 
   agrees-set : (s : State) (l : Ledger) → Agrees start s l → (i : ℕ) (t : Store) (rows : List Row) → Holds (start i) t rows
@@ -51,6 +52,7 @@ module _ (start : ℕ → List ℕ) where
         ap groupsAre (merge-outcome (start i) (s .tables i) (l .rows i) (a .tables i) (start j) (s .tables j) (l .rows j) (a .tables j))
     answer-is (ask i q) = ask-is (s .tables i) (l .rows i) (sound-is (start i) (s .tables i) (l .rows i) (a .tables i)) (a .tables i .holds) q
 
+  -- every call's columns hold bytes
   abbrev AllLent : List Call → Type 0
   AllLent cs = All (λ (c : Call). not (lendsBytes c) ≡ false) cs
 

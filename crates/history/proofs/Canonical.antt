@@ -1,4 +1,4 @@
--- Adding rows to the table of some rows, and merging two such tables, give the table of all the rows.
+-- The table of some rows is the one rising table in which each section of the rows is found; so adding rows to it, or merging two, gives the table of all.
 use Prim.Native.Nat.{ℕ, _<_}
 use mathlib.Core.Path.{_≡_, refl, sym, _∙_, ap, ap₂}
 use mathlib.Core.Bool.{Bool, true, false, cond}
@@ -63,6 +63,7 @@ module _ (F : ℕ → Section) (keyed : (k : ℕ) → (F k) .key ≡ k) (k : ℕ
       go ih (more h) (no d) =
           rw (le-ltb a l (omega arith), ne-eqb a l (λ e. omega arith), find-not l (map F (insertKey a ls)) d, find-not l (map F ls) d) ih
 
+-- whether a list has a member
 abbrev nonEmpty : List ℕ → Bool
 nonEmpty [] = false
 nonEmpty (b ∷ bs) = true

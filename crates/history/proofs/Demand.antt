@@ -16,9 +16,9 @@ use Rattle.lists.proofs.All.{All, any-false}
 use Rattle.table.proofs.Bytes.{length-sectionBytes}
 use Rattle.history.specs.Rows.{SameRows, valuesOf}
 use Rattle.history.specs.Canonical.{sectionOf, sectionIf, canonical}
-use Rattle.history.specs.Calls.{Question, Call, lendsBytes}
+use Rattle.history.specs.Calls.{Question, Call, lendsBytes, noRows}
 use Rattle.history.specs.Run.{Store, askTable, askRows, answers, answersRows, refuses}
-use Rattle.history.specs.Demand3.{History, empty, noRows, lengths, rows, table, used, sectionsIn, Demand3}
+use Rattle.history.specs.Demand3.{History, empty, lengths, rows, table, used, sectionsIn, Demand3}
 use Rattle.history.proofs.Sections.{section-count}
 use Rattle.history.proofs.Canonical.{find-canonical}
 use Rattle.history.proofs.Order.{canonical-same}

@@ -1,4 +1,4 @@
--- The same rows, repeats counted, give the same table, whatever their order.
+-- Rows that occur equally often are a permutation of each other, and a permutation keeps each section; so the same rows give the same table.
 use Prim.Native.Nat.{ℕ, suc, _+_, _<_}
 use mathlib.Core.Path.{_≡_, refl, sym, _∙_, ap, subst}
 use mathlib.Core.Bool.{false, cond}
@@ -77,6 +77,7 @@ permuted (x ∷ xs) ys h = go (permuted xs) (pull x ys (omega (arith, h x, occur
 
 -- ---- a permutation keeps each section
 module _ (k : ℕ) where
+  -- the section of one row, where it has the number k
   abbrev one : Row → Option Section
   one x = sectionIf k (valuesOf k (x ∷ []))
 

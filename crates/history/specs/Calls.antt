@@ -66,6 +66,10 @@ mergeRowsOutcome len rows others = outcome (mergeRowsGrounds len rows others) (l
 pub record Ledger : Type 0 where
   pub rows : ℕ → List Row
 
+-- no table has rows
+abbrev pub noRows : Ledger
+noRows = record { rows = λ i. [] }
+
 -- a family of things by number, with thing i changed to x
 abbrev pub put : {A : Type 0} → ℕ → A → (ℕ → A) → ℕ → A
 put i x s j = cond (eqb j i) x (s j)

@@ -22,16 +22,17 @@ use Rattle.table.specs.Calls.{addGrounds, columnGrounds, mergeGrounds}
 use Rattle.lists.specs.Lists.{anyOf}
 use Rattle.history.specs.Rows.{valuesOf, insertKey, sectionNumbers}
 use Rattle.history.specs.Canonical.{sectionAtTop, canonical}
-use Rattle.history.specs.Calls.{sum, figure, line, Call, add, merge, ask, tooManyRows, tooManyKeys, addRowsGrounds, mergeRowsGrounds, stepRows, ledgerAfter}
-use Rattle.history.specs.Demand3.{History, noRows}
-use Rattle.history.specs.Run.{Store, State, groupsAre, sumIs, figureIs, lineIs, step, stateAfter, askTable, answer, answers}
+use Rattle.history.specs.Calls.{sum, figure, line, Call, add, merge, ask, tooManyRows, tooManyKeys, addRowsGrounds, mergeRowsGrounds, noRows, stepRows, ledgerAfter}
+use Rattle.history.specs.Demand3.{History}
+use Rattle.history.specs.Run.{Store, State, noGroups, groupsAre, sumIs, figureIs, lineIs, step, stateAfter, askTable, answer, answers}
 
--- tables in buffers of 128 bytes: room for two sections
+-- a buffer of 128 bytes: room for two sections
 abbrev first : List ℕ
 first = replicate 128 255
 
+-- every table is empty, in such a buffer
 abbrev start : State
-start = record { tables = λ i. record { bytes = first; groups = 0 } }
+start = noGroups (λ i. first)
 
 -- an add to table i of rows given by their keys and bits
 abbrev addTo : ℕ → List ℕ → List ℕ → Call

@@ -2,7 +2,7 @@
 use Prim.Native.Nat.{ℕ, _*_, _^_, _≤_, _<_}
 use mathlib.Core.Path.{_≡_}
 use mathlib.Core.Bool.{true, false, not}
-use mathlib.Core.List.{List, []}
+use mathlib.Core.List.{List}
 use mathlib.Core.Option.{none, some}
 use lib.ListN.{length, take}
 use lib.IntN.{_-ℤ_, natAbs}
@@ -13,8 +13,8 @@ use Rattle.record.specs.Section.{Section, sections, written, find, kept}
 use Rattle.lists.specs.Lists.{anyOf}
 use Rattle.history.specs.Rows.{SameRows, valuesOf, largest}
 use Rattle.history.specs.Canonical.{canonical}
-use Rattle.history.specs.Calls.{Question, Call, lendsBytes, Ledger, ledgerAfter}
-use Rattle.history.specs.Run.{Store, State, stateAfter, askTable, askRows, answers, answersRows, refuses}
+use Rattle.history.specs.Calls.{Question, Call, lendsBytes, noRows, ledgerAfter}
+use Rattle.history.specs.Run.{Store, State, noGroups, stateAfter, askTable, askRows, answers, answersRows, refuses}
 
 -- a way of working: the bytes in each table's buffer at the start, and the calls
 pub record History : Type 0 where
@@ -22,13 +22,9 @@ pub record History : Type 0 where
   pub calls : List Call
   pub lent : anyOf (λ (c : Call). not (lendsBytes c)) calls ≡ false
 
--- the state at the start: every table has no groups
+-- the state at the start: every table is empty
 abbrev pub empty : History → State
-empty h = record { tables = λ i. record { bytes = h .start i; groups = 0 } }
-
--- the ledger at the start: no table has rows
-abbrev pub noRows : Ledger
-noRows = record { rows = λ i. [] }
+empty h = noGroups (h .start)
 
 -- the lent lengths
 abbrev pub lengths : History → ℕ → ℕ

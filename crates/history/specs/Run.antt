@@ -23,6 +23,10 @@ pub record Store : Type 0 where
 pub record State : Type 0 where
   pub tables : ℕ → Store
 
+-- no table has groups; start i are the bytes in table i's buffer
+abbrev pub noGroups : (ℕ → List ℕ) → State
+noGroups start = record { tables = λ i. record { bytes = start i; groups = 0 } }
+
 -- the state with t as table i
 abbrev pub setTable : ℕ → Store → State → State
 setTable i t s = record { tables = put i t (s .tables) }
