@@ -6,7 +6,7 @@ use mathlib.Core.Bool.{Bool, true, false, cond}
 use mathlib.Core.List.{List}
 use mathlib.Core.Option.{Option, none, some}
 use native.Mathlib.Omega.{arith}
-use lib.Dec.{T}
+use lib.Dec.{T, ltb}
 use lib.IntN.{ℤ, pos, negℤ}
 use lib.ListN.{length}
 use lib.Ieee.Scale.{finite}
@@ -15,12 +15,13 @@ use mir.Val.{SFits, toZ, ofZ}
 use mir.Facts.{sfits-widen}
 use mir.ValLaws.{toZ-ofZ}
 use borrow.Author.Tests.{ltb-false}
-use Rattle.refusal.specs.Outcome.{Outcome, accepted, refused}
-use Rattle.patch.proofs.Grounds.{none-holds}
+use Rattle.refusal.specs.Outcome.{Outcome, accepted, refused, Ground, outcome, condition}
+use Rattle.refusal.proofs.Outcomes.{accepted-not, accepted-value}
+use Rattle.columns.specs.declared.Kind.the-variants.{Double}
 use Rattle.record.specs.Layout.{capacity}
 use Rattle.record.specs.Sound.{sound}
 use Rattle.record.specs.Section.{Section, kept, sections, find}
-use Rattle.table.specs.Calls.{addSections, addGrounds, addOutcome, mergeSections, mergeGrounds, mergeOutcome}
+use Rattle.table.specs.Calls.{addSections, columnGrounds, addGrounds, addOutcome, mergeSections, mergeGrounds, mergeOutcome}
 use Rattle.finish.specs.Sum.{nearestDouble, tooLarge}
 use Rattle.finish.specs.Figure.{beyond}
 use Rattle.finish.specs.Finish.{figureFor, lineFor, lineOf, lineOutcome}
@@ -40,25 +41,21 @@ widens z fits = subst (SFits w64) (sym (toZ-ofZ w32 z fits)) (sfits-widen tt fit
 pub widened : (z : ℤ) → SFits w32 z → toZ w64 (ofZ w64 (toZ w32 (ofZ w32 z))) ≡ z
 widened z fits = ap (λ (y : ℤ). toZ w64 (ofZ w64 y)) (toZ-ofZ w32 z fits) ∙ toZ-ofZ w64 z (sfits-widen tt fits)
 
-pub capacity-le : (n : ℕ) → capacity n ≤ 1024
-capacity-le n = min-le-right (n / 64) 1024
+-- an accepted call gives no more groups than a table can have, if it refuses with 12 those that have no room
+module _ (gs : List Ground) (len m : ℕ) (room : condition 12 gs ≡ ltb (capacity len) m) where
+  groups-le : {n : ℕ} → outcome gs m ≡ accepted n → n ≤ 1024
+  groups-le {n} e =
+      let h = ltb-false (capacity len) m (sym room ∙ accepted-not 12 gs m e) in
+      let q : m ≡ n = accepted-value gs m e in
+      omega (arith, min-le-right (len / 64) 1024)
 
--- an accepted add gives no more groups than a table can have
-pub add-groups : (s : List ℕ) (g : ℕ) (ks vs : List ℕ) (work n : ℕ) → addOutcome s g ks vs work ≡ accepted n → n ≤ 1024
-unfolding addGrounds
-add-groups s g ks vs work n e =
-    let p = none-holds (addGrounds s g ks vs work) e in
-    let room = ltb-false (capacity (length s)) (length (addSections s g ks vs)) (p .0 .1 .1 .1 .1 .1 .0) in
-    let q = p .1 in
-    omega (arith, capacity-le (length s))
+pub add-groups : (s : List ℕ) (g : ℕ) (ks vs : List ℕ) (work : ℕ) {n : ℕ} → addOutcome Double s g ks vs work ≡ accepted n → n ≤ 1024
+unfolding addGrounds columnGrounds
+add-groups s g ks vs work = groups-le (addGrounds Double s g ks vs work) (length s) (length (addSections Double s g ks vs)) refl
 
-pub merge-groups : (s : List ℕ) (g : ℕ) (s′ : List ℕ) (g′ n : ℕ) → mergeOutcome s g s′ g′ ≡ accepted n → n ≤ 1024
+pub merge-groups : (s : List ℕ) (g : ℕ) (s′ : List ℕ) (g′ : ℕ) {n : ℕ} → mergeOutcome s g s′ g′ ≡ accepted n → n ≤ 1024
 unfolding mergeGrounds
-merge-groups s g s′ g′ n e =
-    let p = none-holds (mergeGrounds s g s′ g′) e in
-    let room = ltb-false (capacity (length s)) (length (mergeSections s g s′ g′)) (p .0 .1 .1 .0) in
-    let q = p .1 in
-    omega (arith, capacity-le (length s))
+merge-groups s g s′ g′ = groups-le (mergeGrounds s g s′ g′) (length s) (length (mergeSections s g s′ g′)) refl
 
 -- the sum of a finished line is finite
 line-finite : (o : Option Section) (l : FinishedLine) → accepted l ≡ lineOf o → T (finite (l .sum))

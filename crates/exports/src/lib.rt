@@ -10,13 +10,14 @@ ghost use lib.Ieee.{binary64};
 ghost use lib.Ieee.Scale.{finite};
 ghost use Rattle.refusal.specs.Number.{numberOf};
 ghost use Rattle.refusal.specs.Outcome.{accepted};
-ghost use Rattle.patch.specs.File.{fieldAt, keyDistance, valueDistance, readOutcome};
+ghost use Rattle.columns.specs.declared.Kind.the-variants.{Double};
+ghost use Rattle.patch.specs.File.{readOutcome, keyStart, valueStart};
 ghost use Rattle.table.specs.Calls.{addOutcome, addLeaves, cleared, mergeOutcome, mergeLeaves};
 ghost use Rattle.table.specs.Answer.{tableAnswer};
 ghost use Rattle.finish.specs.Finish.{sumOutcome, figureOutcome, lineOutcome};
 ghost use Rattle.report.specs.Text.{reportText};
 ghost use Rattle.report.specs.Answer.{printOutcome, printLeaves};
-ghost use Rattle.exports.specs.Calls.{returned, count, none, writes, startOf, bitsOf, columnAt};
+ghost use Rattle.exports.specs.Calls.{returnsCount, returnsZero, writes, doubleBits};
 use finish::FigureAnswer;
 use finish::LineAnswer;
 use finish::SectionSum;
@@ -32,40 +33,25 @@ fn minus(r: Refusal) -> i64
     level::with_sign(true, refusal::number(r) as u64)
 }
 
-// Where the column starts whose distance stands in the trailer's field at back.
-fn column_start(file: &[u8], back: usize) -> u64
-    requires { ⌜ (4 ≤ back) × (back ≤ length (now file)) × (fieldAt (now file) back ≤ length (now file)) ⌝ }
-    ensures { λ r. ⌜ r ≡ startOf (now (file .entry)) (fieldAt (now (file .entry)) back) ⌝ }
-{
-    let distance = codec::u32_at(file, file.len() - back) as usize;
-    (file.len() - distance) as u64
-}
-
 // The row count of a patch file, and where its columns start.
 #[no_mangle]
 pub extern "C" fn girth_read(file: &[u8], keys_at: &mut u64, values_at: &mut u64) -> i64
-    ensures answer { λ r. ⌜ r ≡ returned count (readOutcome 8 (now (file .entry))) ⌝ }
-    ensures keys { λ _. ⌜ now («keys_at» .exit) ≡ columnAt keyDistance (now (file .entry)) ⌝ }
-    ensures values { λ _. ⌜ now («values_at» .exit) ≡ columnAt valueDistance (now (file .entry)) ⌝ }
+    ensures answer { λ r. ⌜ r ≡ returnsCount (readOutcome Double (now (file .entry))) ⌝ }
+    ensures keys { λ _. ⌜ now («keys_at» .exit) ≡ keyStart Double (now (file .entry)) ⌝ }
+    ensures values { λ _. ⌜ now («values_at» .exit) ≡ valueStart Double (now (file .entry)) ⌝ }
 {
+    *keys_at = patch::key_start(file) as u64;
+    *values_at = patch::value_start(file) as u64;
     match patch::read(file) {
-        Reading::Rows(n) => {
-            *keys_at = column_start(file, 12);
-            *values_at = column_start(file, 8);
-            n as i64
-        }
-        Reading::Refused(r) => {
-            *keys_at = 0;
-            *values_at = 0;
-            minus(r)
-        }
+        Reading::Rows(n) => n as i64,
+        Reading::Refused(r) => minus(r),
     }
 }
 
 // The new group count of an add or a merge, or minus the refusal's number.
 fn groups_or_minus(a: TableAnswer) -> i64
     requires { ⌜ ((g : ℕ) → tableAnswer a ≡ accepted g → g ≤ 1024) ⌝ }
-    ensures { λ r. ⌜ r ≡ returned count (tableAnswer a) ⌝ }
+    ensures { λ r. ⌜ r ≡ returnsCount (tableAnswer a) ⌝ }
 {
     match a {
         TableAnswer::Groups(g) => g as i64,
@@ -82,8 +68,8 @@ pub extern "C" fn girth_add(
     values: &[u8],
     work: &mut [u8],
 ) -> i64
-    ensures answer { λ r. ⌜ r ≡ returned count (addOutcome (now (table .entry)) g (now (keys .entry)) (now (values .entry)) (length (now (work .entry)))) ⌝ }
-    ensures bytes { λ _. ⌜ now (table .exit) ≡ addLeaves (now (table .entry)) g (now (keys .entry)) (now (values .entry)) (length (now (work .entry))) ⌝ }
+    ensures answer { λ r. ⌜ r ≡ returnsCount (addOutcome Double (now (table .entry)) g (now (keys .entry)) (now (values .entry)) (length (now (work .entry)))) ⌝ }
+    ensures bytes { λ _. ⌜ now (table .exit) ≡ addLeaves Double (now (table .entry)) g (now (keys .entry)) (now (values .entry)) (length (now (work .entry))) ⌝ }
     ensures work { λ _. ⌜ now (work .exit) ≡ cleared (now (work .entry)) ⌝ }
 {
     groups_or_minus(add::add(table, g as usize, keys, values, work))
@@ -92,7 +78,7 @@ pub extern "C" fn girth_add(
 // Merges a table of g2 records into one of g1.
 #[no_mangle]
 pub extern "C" fn girth_merge(first: &mut [u8], g1: u64, second: &[u8], g2: u64) -> i64
-    ensures answer { λ r. ⌜ r ≡ returned count (mergeOutcome (now (first .entry)) g1 (now (second .entry)) g2) ⌝ }
+    ensures answer { λ r. ⌜ r ≡ returnsCount (mergeOutcome (now (first .entry)) g1 (now (second .entry)) g2) ⌝ }
     ensures bytes { λ _. ⌜ now (first .exit) ≡ mergeLeaves (now (first .entry)) g1 (now (second .entry)) g2 ⌝ }
 {
     groups_or_minus(merge::merge(first, g1 as usize, second, g2 as usize))
@@ -101,8 +87,8 @@ pub extern "C" fn girth_merge(first: &mut [u8], g1: u64, second: &[u8], g2: u64)
 // The sum of a section, as 64 bits.
 #[no_mangle]
 pub extern "C" fn girth_sum(table: &[u8], g: u64, key: u32, bits: &mut u64) -> i64
-    ensures answer { λ r. ⌜ r ≡ returned none (sumOutcome (now (table .entry)) g key) ⌝ }
-    ensures bits { λ _. ⌜ now (bits .exit) ≡ writes 0 bitsOf (sumOutcome (now (table .entry)) g key) ⌝ }
+    ensures answer { λ r. ⌜ r ≡ returnsZero (sumOutcome (now (table .entry)) g key) ⌝ }
+    ensures bits { λ _. ⌜ now (bits .exit) ≡ writes 0 doubleBits (sumOutcome (now (table .entry)) g key) ⌝ }
 {
     *bits = 0;
     match finish::sum(table, g as usize, key) {
@@ -119,7 +105,7 @@ pub extern "C" fn girth_sum(table: &[u8], g: u64, key: u32, bits: &mut u64) -> i
 // The mill figure of a section.
 #[no_mangle]
 pub extern "C" fn girth_figure(table: &[u8], g: u64, key: u32, figure: &mut i64) -> i64
-    ensures answer { λ r. ⌜ r ≡ returned none (figureOutcome (now (table .entry)) g key) ⌝ }
+    ensures answer { λ r. ⌜ r ≡ returnsZero (figureOutcome (now (table .entry)) g key) ⌝ }
     ensures figure { λ _. ⌜ now (figure .exit) ≡ writes (pos 0) (λ z. z) (figureOutcome (now (table .entry)) g key) ⌝ }
 {
     *figure = 0;
@@ -142,9 +128,9 @@ pub extern "C" fn girth_line(
     bits: &mut u64,
     figure: &mut i64,
 ) -> i64
-    ensures answer { λ r. ⌜ r ≡ returned none (lineOutcome (now (table .entry)) g key) ⌝ }
+    ensures answer { λ r. ⌜ r ≡ returnsZero (lineOutcome (now (table .entry)) g key) ⌝ }
     ensures count { λ _. ⌜ now (count .exit) ≡ writes 0 (λ l. l .count) (lineOutcome (now (table .entry)) g key) ⌝ }
-    ensures bits { λ _. ⌜ now (bits .exit) ≡ writes 0 (λ l. bitsOf (l .sum)) (lineOutcome (now (table .entry)) g key) ⌝ }
+    ensures bits { λ _. ⌜ now (bits .exit) ≡ writes 0 (λ l. doubleBits (l .sum)) (lineOutcome (now (table .entry)) g key) ⌝ }
     ensures figure { λ _. ⌜ now (figure .exit) ≡ writes (pos 0) (λ l. l .figure) (lineOutcome (now (table .entry)) g key) ⌝ }
 {
     *count = 0;
@@ -164,7 +150,7 @@ pub extern "C" fn girth_line(
 // The report of a patch file, at the front of out: the length of its text, or -16 where out is shorter.
 #[no_mangle]
 pub extern "C" fn girth_report(file: &[u8], out: &mut [u8]) -> i64
-    ensures answer { λ r. ⌜ r ≡ returned count (printOutcome (now (out .entry)) (reportText (now (file .entry)))) ⌝ }
+    ensures answer { λ r. ⌜ r ≡ returnsCount (printOutcome (now (out .entry)) (reportText (now (file .entry)))) ⌝ }
     ensures bytes { λ _. ⌜ now (out .exit) ≡ printLeaves (now (out .entry)) (reportText (now (file .entry))) ⌝ }
 {
     match report::report(file, out) {

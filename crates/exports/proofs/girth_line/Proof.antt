@@ -6,7 +6,7 @@ use Rattle.refusal.specs.Number.{numberOf}
 use Rattle.finish.specs.Answer.{lineAnswer}
 use Rattle.finish.specs.declared.FinishedLine.{FinishedLine}
 use Rattle.finish.proofs.Fraction.{number}
-use Rattle.exports.specs.Calls.{returned, none, writes, bitsOf}
+use Rattle.exports.specs.Calls.{returnsZero, writes, doubleBits}
 use Rattle.exports.proofs.Answers.{refusing, widens, widened, line-sum-finite}
 use borrow.Author.Needs.{needs}
 use Rattle.exports.proofs.girth_line.Statement.{statement}
@@ -34,10 +34,10 @@ minus-requires : tie.Need-minus-requires
 minus-requires c κs = search needs
 
 returns : tie.Need-returns
-returns c = let l = c .before .before .before .before .before .l .given in let o = ap lineAnswer (sym (l .1)) ∙ c .before .before .before .before .before .before .before .line .ensures in let f : SFits w32 (l .0 .0 .figure) = search needs in (ap (returned none) o, (ap (writes 0 (λ (l : FinishedLine). l .count)) o, (ap (writes 0 (λ (l : FinishedLine). bitsOf (l .sum))) o, widened (l .0 .0 .figure) f ∙ ap (writes (pos 0) (λ (l : FinishedLine). l .figure)) o)))
+returns c = let l = c .before .before .before .before .before .l .given in let o = ap lineAnswer (sym (l .1)) ∙ c .before .before .before .before .before .before .before .line .ensures in let f : SFits w32 (l .0 .0 .figure) = search needs in (ap (returnsZero) o, (ap (writes 0 (λ (l : FinishedLine). l .count)) o, (ap (writes 0 (λ (l : FinishedLine). doubleBits (l .sum))) o, widened (l .0 .0 .figure) f ∙ ap (writes (pos 0) (λ (l : FinishedLine). l .figure)) o)))
 
 returns-2 : tie.Need-returns-2
-returns-2 c = let r = c .before .before .r .given in let o = ap lineAnswer (sym (r .1)) ∙ c .before .before .before .before .line .ensures in let f : SFits w64 (c .minus .result) = search needs in (refusing none (numberOf (r .0 .0)) (c .minus .result) f (c .minus .ensures) o, (ap (writes 0 (λ (l : FinishedLine). l .count)) o, (ap (writes 0 (λ (l : FinishedLine). bitsOf (l .sum))) o, ap (writes (pos 0) (λ (l : FinishedLine). l .figure)) o)))
+returns-2 c = let r = c .before .before .r .given in let o = ap lineAnswer (sym (r .1)) ∙ c .before .before .before .before .line .ensures in let f : SFits w64 (c .minus .result) = search needs in (refusing (λ x. 0) (numberOf (r .0 .0)) (c .minus .result) f (c .minus .ensures) o, (ap (writes 0 (λ (l : FinishedLine). l .count)) o, (ap (writes 0 (λ (l : FinishedLine). doubleBits (l .sum))) o, ap (writes (pos 0) (λ (l : FinishedLine). l .figure)) o)))
 
 pub girth-line-spec : {M : Type 1} → statement M
 girth-line-spec =

@@ -5,7 +5,7 @@ use mir.ValLaws.{toZ-pos}
 use Rattle.report.specs.Text.{reportText}
 use Rattle.report.specs.Answer.{printedAnswer}
 use Rattle.report.proofs.Whole.{printed-fits}
-use Rattle.exports.specs.Calls.{returned, count}
+use Rattle.exports.specs.Calls.{returnsCount}
 use borrow.Author.Needs.{needs}
 use Rattle.exports.proofs.girth_report.Statement.{statement}
 use Rattle.exports.proofs.girth_report.Tie as tie
@@ -37,7 +37,7 @@ returns c =
     let n = c .before .n .given in
     let o = ap printedAnswer (sym (n .1)) ∙ c .before .before .before .before .before .report .ensures .0 in
     let most = printed-fits (s .out .now) (reportText (s .file .now)) (n .0 .0) o in
-    (toZ-pos w64 (n .0 .0) (omega arith) ∙ ap (returned count) o, c .before .before .before .before .before .report .ensures .1)
+    (toZ-pos w64 (n .0 .0) (omega arith) ∙ ap (returnsCount) o, c .before .before .before .before .before .report .ensures .1)
 
 same-length-2 : tie.Need-same-length-2
 same-length-2 c = search needs
@@ -45,7 +45,7 @@ same-length-2 c = search needs
 returns-2 : tie.Need-returns-2
 returns-2 c =
     let o = ap printedAnswer (sym (c .enum-told .given .1)) ∙ c .before .before .before .before .report .ensures .0 in
-    (ap (returned count) o, c .before .before .before .before .report .ensures .1)
+    (ap (returnsCount) o, c .before .before .before .before .report .ensures .1)
 
 pub girth-report-spec : {M : Type 1} → statement M
 girth-report-spec =

@@ -5,7 +5,7 @@ use Rattle.finish.specs.Answer.{sumAnswer}
 use Rattle.finish.specs.Steps.{FiniteSum}
 use Rattle.finish.proofs.Fraction.{number}
 use Rattle.finish.proofs.Outcomes.{finite-outcome}
-use Rattle.exports.specs.Calls.{returned, none, writes, bitsOf}
+use Rattle.exports.specs.Calls.{returnsZero, writes, doubleBits}
 use Rattle.exports.proofs.Answers.{refusing}
 use borrow.Author.Needs.{needs}
 use Rattle.exports.proofs.girth_sum.Statement.{statement}
@@ -39,16 +39,16 @@ minus-requires-3 : tie.Need-minus-requires-3
 minus-requires-3 c κs = search needs
 
 returns : tie.Need-returns
-returns c = let x = c .before .x .given in let o = ap sumAnswer (sym (x .1)) ∙ c .before .before .before .sum .ensures in (ap (returned none) o, ap (writes 0 bitsOf) o)
+returns c = let x = c .before .x .given in let o = ap sumAnswer (sym (x .1)) ∙ c .before .before .before .sum .ensures in (ap (returnsZero) o, ap (writes 0 doubleBits) o)
 
 returns-2 : tie.Need-returns-2
-returns-2 c = let o = ap sumAnswer (sym (c .before .enum-told .given .1)) ∙ c .before .before .before .sum .ensures in let f : SFits w64 (c .minus .result) = search needs in (refusing none 13 (c .minus .result) f (c .minus .ensures) o, ap (writes 0 bitsOf) o)
+returns-2 c = let o = ap sumAnswer (sym (c .before .enum-told .given .1)) ∙ c .before .before .before .sum .ensures in let f : SFits w64 (c .minus .result) = search needs in (refusing (λ x. 0) 13 (c .minus .result) f (c .minus .ensures) o, ap (writes 0 doubleBits) o)
 
 returns-3 : tie.Need-returns-3
-returns-3 c = let o = ap sumAnswer (sym (c .before .enum-told2 .given .1)) ∙ c .before .before .before .sum .ensures in let f : SFits w64 (c .minus2 .result) = search needs in (refusing none 14 (c .minus2 .result) f (c .minus2 .ensures) o, ap (writes 0 bitsOf) o)
+returns-3 c = let o = ap sumAnswer (sym (c .before .enum-told2 .given .1)) ∙ c .before .before .before .sum .ensures in let f : SFits w64 (c .minus2 .result) = search needs in (refusing (λ x. 0) 14 (c .minus2 .result) f (c .minus2 .ensures) o, ap (writes 0 doubleBits) o)
 
 returns-4 : tie.Need-returns-4
-returns-4 c = let o = ap sumAnswer (sym (c .before .enum-told3 .given .1)) ∙ c .before .before .before .sum .ensures in let f : SFits w64 (c .minus3 .result) = search needs in (refusing none 7 (c .minus3 .result) f (c .minus3 .ensures) o, ap (writes 0 bitsOf) o)
+returns-4 c = let o = ap sumAnswer (sym (c .before .enum-told3 .given .1)) ∙ c .before .before .before .sum .ensures in let f : SFits w64 (c .minus3 .result) = search needs in (refusing (λ x. 0) 7 (c .minus3 .result) f (c .minus3 .ensures) o, ap (writes 0 doubleBits) o)
 
 pub girth-sum-spec : {M : Type 1} → statement M
 girth-sum-spec =

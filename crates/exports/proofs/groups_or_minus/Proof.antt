@@ -6,7 +6,7 @@ use mir.ValLaws.{toZ-pos}
 use Rattle.refusal.specs.Number.{numberOf}
 use Rattle.table.specs.Answer.{tableAnswer}
 use Rattle.table.specs.declared.TableAnswer.{TableAnswer}
-use Rattle.exports.specs.Calls.{returned, count}
+use Rattle.exports.specs.Calls.{returnsCount}
 use Rattle.exports.proofs.Answers.{refusing}
 use borrow.Author.Needs.{needs}
 use Rattle.exports.proofs.groups_or_minus.Statement.{statement}
@@ -25,10 +25,10 @@ minus-requires : tie.Need-minus-requires
 minus-requires c κs = search needs
 
 returns : tie.Need-returns
-returns c = let g = c .before .a .given in let small = c .before .before .before .pre (g .0 .0) (ap tableAnswer (g .1)) in toZ-pos w64 (g .0 .0) (omega arith) ∙ ap (λ (a : TableAnswer). returned count (tableAnswer a)) (sym (g .1))
+returns c = let g = c .before .a .given in let small = c .before .before .before .pre (g .0 .0) (ap tableAnswer (g .1)) in toZ-pos w64 (g .0 .0) (omega arith) ∙ ap (λ (a : TableAnswer). returnsCount (tableAnswer a)) (sym (g .1))
 
 returns-2 : tie.Need-returns-2
-returns-2 c = let g = c .before .before .a2 .given in let f : SFits w64 (c .minus .result) = search needs in refusing count (numberOf (g .0 .0)) (c .minus .result) f (c .minus .ensures) (ap tableAnswer (sym (g .1)))
+returns-2 c = let g = c .before .before .a2 .given in let f : SFits w64 (c .minus .result) = search needs in refusing (λ n. n) (numberOf (g .0 .0)) (c .minus .result) f (c .minus .ensures) (ap tableAnswer (sym (g .1)))
 
 pub groups-or-minus-spec : {M : Type 1} → statement M
 groups-or-minus-spec =
