@@ -42,20 +42,40 @@ returned s i o b = setTable i (after o b (s .tables i .groups)) s
 
 -- the five calls, each with its arguments a, its result z and what was lent, e, at its end; `Learnt` is its contract
 pub record Conforms : Type 0 where
-  -- add::add; its work buffer holds only zeros afterwards
+  -- add::add to table i; its work buffer holds only zeros afterwards
   pub of-add : (s : State) (i : ℕ) (κs : Lfts 4) (a : Dens κs addKinds.ps) (z : resT addKinds.r κs .Denot) (e : AtExit (endedOf 4 addKinds.ps addKinds.r) κs)
-      → Lent (s .tables i) (now (a .0)) (a .1 .0) → adds.Learnt κs a z e
-      → Steps s (add i Double (now (a .1 .1 .0)) (now (a .1 .1 .1 .0)) (length (now (a .1 .1 .1 .1 .0)))) (groupsAre (tableAnswer z)) (returned s i (tableAnswer z) (now (e .0)))
-      × (now (e .1 .1 .1 .1 .0) ≡ cleared (now (a .1 .1 .1 .1 .0)))
-  -- merge::merge of table j, which is lent for reading
+      → let table = now (a .0) in
+      let g = a .1 .0 in
+      let keys = now (a .1 .1 .0) in
+      let values = now (a .1 .1 .1 .0) in
+      let work = now (a .1 .1 .1 .1 .0) in
+      let table′ = now (e .0) in
+      let work′ = now (e .1 .1 .1 .1 .0) in
+      Lent (s .tables i) table g → adds.Learnt κs a z e
+      → Steps s (add i Double keys values (length work)) (groupsAre (tableAnswer z)) (returned s i (tableAnswer z) table′) × (work′ ≡ cleared work)
+  -- merge::merge into table i of another table j, which is lent for reading
   pub of-merge : (s : State) (i j : ℕ) (apart : T (not (eqb i j)))
       (κs : Lfts 2) (a : Dens κs mergeKinds.ps) (z : resT mergeKinds.r κs .Denot) (e : AtExit (endedOf 2 mergeKinds.ps mergeKinds.r) κs)
-      → Lent (s .tables i) (now (a .0)) (a .1 .0) → Lent (s .tables j) (now (a .1 .1 .0)) (a .1 .1 .1 .0) → merges.Learnt κs a z e
-      → Steps s (merge i j apart) (groupsAre (tableAnswer z)) (returned s i (tableAnswer z) (now (e .0)))
-  -- finish::sum, figure and line of a table that is lent for reading
+      → let first = now (a .0) in
+      let g1 = a .1 .0 in
+      let second = now (a .1 .1 .0) in
+      let g2 = a .1 .1 .1 .0 in
+      let first′ = now (e .0) in
+      Lent (s .tables i) first g1 → Lent (s .tables j) second g2 → merges.Learnt κs a z e
+      → Steps s (merge i j apart) (groupsAre (tableAnswer z)) (returned s i (tableAnswer z) first′)
+  -- finish::sum, figure and line of a section in table i, which is lent for reading
   pub of-sum : (s : State) (i : ℕ) (κs : Lfts 1) (a : Dens κs sumKinds.ps) (z : resT sumKinds.r κs .Denot) (e : AtExit (endedOf 1 sumKinds.ps sumKinds.r) κs)
-      → Lent (s .tables i) (now (a .0)) (a .1 .0) → sums.Learnt κs a z e → Steps s (ask i (sum (a .1 .1 .0))) (sumIs (sumAnswer z)) s
+      → let table = now (a .0) in
+      let g = a .1 .0 in
+      let key = a .1 .1 .0 in
+      Lent (s .tables i) table g → sums.Learnt κs a z e → Steps s (ask i (sum key)) (sumIs (sumAnswer z)) s
   pub of-figure : (s : State) (i : ℕ) (κs : Lfts 1) (a : Dens κs figureKinds.ps) (z : resT figureKinds.r κs .Denot) (e : AtExit (endedOf 1 figureKinds.ps figureKinds.r) κs)
-      → Lent (s .tables i) (now (a .0)) (a .1 .0) → figures.Learnt κs a z e → Steps s (ask i (figure (a .1 .1 .0))) (figureIs (figureAnswer z)) s
+      → let table = now (a .0) in
+      let g = a .1 .0 in
+      let key = a .1 .1 .0 in
+      Lent (s .tables i) table g → figures.Learnt κs a z e → Steps s (ask i (figure key)) (figureIs (figureAnswer z)) s
   pub of-line : (s : State) (i : ℕ) (κs : Lfts 1) (a : Dens κs lineKinds.ps) (z : resT lineKinds.r κs .Denot) (e : AtExit (endedOf 1 lineKinds.ps lineKinds.r) κs)
-      → Lent (s .tables i) (now (a .0)) (a .1 .0) → lines.Learnt κs a z e → Steps s (ask i (line (a .1 .1 .0))) (lineIs (lineAnswer z)) s
+      → let table = now (a .0) in
+      let g = a .1 .0 in
+      let key = a .1 .1 .0 in
+      Lent (s .tables i) table g → lines.Learnt κs a z e → Steps s (ask i (line key)) (lineIs (lineAnswer z)) s

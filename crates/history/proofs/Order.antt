@@ -1,7 +1,7 @@
 -- Rows that occur equally often are a permutation of each other, and a permutation keeps each section; so the same rows give the same table.
 use Prim.Native.Nat.{ℕ, suc, _+_, _<_}
 use mathlib.Core.Path.{_≡_, refl, sym, _∙_, ap, subst}
-use mathlib.Core.Bool.{false, cond}
+use mathlib.Core.Bool.{true, false, cond}
 use mathlib.Core.List.{List, [], _∷_}
 use mathlib.Core.Option.{Option}
 use native.Mathlib.Omega.{arith}
@@ -23,7 +23,7 @@ data Permutation : List Row → List Row → Type 0 where
   both : {xs ys zs : List Row} → Permutation xs ys → Permutation ys zs → Permutation xs zs
 
 -- ---- equal occurrences make a permutation
-decRow : (r s : Row) → Dec (r ≡ s)
+pub decRow : (r s : Row) → Dec (r ≡ s)
 decRow r s = go (ℕ-discrete (r .key) (s .key)) (ℕ-discrete (r .bits) (s .bits))
   where
     go : Dec (r .key ≡ s .key) → Dec (r .bits ≡ s .bits) → Dec (r ≡ s)
@@ -31,18 +31,23 @@ decRow r s = go (ℕ-discrete (r .key) (s .key)) (ℕ-discrete (r .bits) (s .bit
     go (yes e) (no f) = no (λ q. f (ap (λ (x : Row). x .bits) q))
     go (no e) d = no (λ q. e (ap (λ (x : Row). x .key) q))
 
-occurs-is : (r s : Row) (ss : List Row) → r ≡ s → occurs r (s ∷ ss) ≡ suc (occurs r ss)
-unfolding occurs
-occurs-is r s ss e =
-    rw (eq-eqb (r .key) (s .key) (ap (λ (x : Row). x .key) e), eq-eqb (r .bits) (s .bits) (ap (λ (x : Row). x .bits) e)) (omega arith)
+pub equal-is : (r s : Row) → r ≡ s → equalRows r s ≡ true
+equal-is r s e = rw (eq-eqb (r .key) (s .key) (ap (λ (x : Row). x .key) e), eq-eqb (r .bits) (s .bits) (ap (λ (x : Row). x .bits) e))
 
-differ : (r s : Row) → (r ≡ s → ⊥) → Dec (r .key ≡ s .key) → equalRows r s ≡ false
-differ r s h (yes e) = rw (eq-eqb (r .key) (s .key) e, ne-eqb (r .bits) (s .bits) (λ f. h (λ i. record { key = e i; bits = f i })))
-differ r s h (no e) = rw (ne-eqb (r .key) (s .key) e)
+pub equal-not : (r s : Row) → (r ≡ s → ⊥) → equalRows r s ≡ false
+equal-not r s h = go (ℕ-discrete (r .key) (s .key))
+  where
+    go : Dec (r .key ≡ s .key) → equalRows r s ≡ false
+    go (yes e) = rw (eq-eqb (r .key) (s .key) e, ne-eqb (r .bits) (s .bits) (λ f. h (λ i. record { key = e i; bits = f i })))
+    go (no e) = rw (ne-eqb (r .key) (s .key) e)
 
-occurs-not : (r s : Row) (ss : List Row) → (r ≡ s → ⊥) → occurs r (s ∷ ss) ≡ occurs r ss
+pub occurs-is : (r s : Row) (ss : List Row) → r ≡ s → occurs r (s ∷ ss) ≡ suc (occurs r ss)
 unfolding occurs
-occurs-not r s ss h = rw (differ r s h (ℕ-discrete (r .key) (s .key))) (omega arith)
+occurs-is r s ss e = rw (equal-is r s e) (omega arith)
+
+pub occurs-not : (r s : Row) (ss : List Row) → (r ≡ s → ⊥) → occurs r (s ∷ ss) ≡ occurs r ss
+unfolding occurs
+occurs-not r s ss h = rw (equal-not r s h) (omega arith)
 
 occurs-permuted : (r : Row) {xs ys : List Row} → Permutation xs ys → occurs r xs ≡ occurs r ys
 unfolding occurs

@@ -33,15 +33,15 @@ use Rattle.history.specs.Run.{Store, after, afterAdd, afterMerge}
 use Rattle.history.proofs.Canonical.{added-canonical, merged-canonical}
 
 -- ---- 11 and 12 on the sections of rows
-few-canonical : (rows : List Row) → anyOf overfull (canonical rows) ≡ tooManyRows rows
+pub few-canonical : (rows : List Row) → anyOf overfull (canonical rows) ≡ tooManyRows rows
 unfolding tooManyRows canonical sectionAtTop
 few-canonical rows = any-map overfull (λ k. sectionOf k (valuesOf k rows)) (sectionNumbers rows)
 
-length-canonical : (rows : List Row) → length (canonical rows) ≡ length (sectionNumbers rows)
+pub length-canonical : (rows : List Row) → length (canonical rows) ≡ length (sectionNumbers rows)
 unfolding canonical
 length-canonical rows = length-map (sectionNumbers rows) (λ k. sectionOf k (valuesOf k rows))
 
-room-canonical : (len : ℕ) (rows : List Row) → ltb (capacity len) (length (canonical rows)) ≡ tooManyKeys len rows
+pub room-canonical : (len : ℕ) (rows : List Row) → ltb (capacity len) (length (canonical rows)) ≡ tooManyKeys len rows
 unfolding tooManyKeys
 room-canonical len rows = rw (length-canonical rows)
 
@@ -62,7 +62,7 @@ pub holds-none : (start : List ℕ) → Holds start (record { bytes = start; gro
 unfolding canonical sectionNumbers image cells
 holds-none start = record { table = proper-none start; holds = refl; groups = refl; bytes = refl; size = refl }
 
-are-bytes : (s : List ℕ) → areBytes s ≡ true → AreBytes s
+pub are-bytes : (s : List ℕ) → areBytes s ≡ true → AreBytes s
 are-bytes [] e i = omega arith
 are-bytes (b ∷ bs) e zero = ltb-true b 256 (and-true (ltb b 256) (areBytes bs) e .0)
 are-bytes (b ∷ bs) e (suc i) = are-bytes bs (and-true (ltb b 256) (areBytes bs) e .1) i
