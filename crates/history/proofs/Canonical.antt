@@ -1,4 +1,4 @@
--- Adding rows to the table of some rows, and merging two such tables, give the table of all the rows.
+-- The table of some rows is the one rising table in which each section of the rows is found; so adding rows to it, or merging two, gives the table of all.
 use Prim.Native.Nat.{ℕ, _<_}
 use mathlib.Core.Path.{_≡_, refl, sym, _∙_, ap, ap₂}
 use mathlib.Core.Bool.{Bool, true, false, cond}
@@ -13,26 +13,26 @@ use Rattle.record.specs.Section.{Section, find}
 use Rattle.columns.specs.Columns.{Row}
 use Rattle.table.specs.Combine.{ofRow, absorb, merged, added}
 use Rattle.table.proofs.Lookup.{Above, Rising, keysIn, Tri, less, same, more, tri, find-nil, find-head, find-tail, find-ext, absorb-rising, merged-rising, join, only, only-is, only-not, find-absorb, find-merged}
-use Rattle.history.specs.Rows.{bitsOf, insertKey, keysOf}
+use Rattle.history.specs.Rows.{valuesOf, insertKey, sectionNumbers}
 use Rattle.history.specs.Canonical.{sectionOf, sectionIf, canonical}
 use Rattle.history.proofs.Sections.{section-key, row-section, join-sections}
 
 -- ---- the rows of a section
-pub bits-is : (k : ℕ) (r : Row) (rs : List Row) → k ≡ r .key → bitsOf k (r ∷ rs) ≡ r .bits ∷ bitsOf k rs
-unfolding bitsOf
-bits-is k r rs e = rw (eq-eqb k (r .key) e)
+pub values-is : (k : ℕ) (r : Row) (rs : List Row) → k ≡ r .key → valuesOf k (r ∷ rs) ≡ r .bits ∷ valuesOf k rs
+unfolding valuesOf
+values-is k r rs e = rw (eq-eqb k (r .key) e)
 
-pub bits-not : (k : ℕ) (r : Row) (rs : List Row) → (k ≡ r .key → ⊥) → bitsOf k (r ∷ rs) ≡ bitsOf k rs
-unfolding bitsOf
-bits-not k r rs e = rw (ne-eqb k (r .key) e)
+pub values-not : (k : ℕ) (r : Row) (rs : List Row) → (k ≡ r .key → ⊥) → valuesOf k (r ∷ rs) ≡ valuesOf k rs
+unfolding valuesOf
+values-not k r rs e = rw (ne-eqb k (r .key) e)
 
-pub bits-append : (k : ℕ) (xs ys : List Row) → bitsOf k (xs ++ ys) ≡ bitsOf k xs ++ bitsOf k ys
-unfolding bitsOf
-bits-append k [] ys = refl
-bits-append k (x ∷ xs) ys = go (bits-append k xs ys) (eqb k (x .key))
+pub values-append : (k : ℕ) (xs ys : List Row) → valuesOf k (xs ++ ys) ≡ valuesOf k xs ++ valuesOf k ys
+unfolding valuesOf
+values-append k [] ys = refl
+values-append k (x ∷ xs) ys = go (values-append k xs ys) (eqb k (x .key))
   where
-    go : bitsOf k (xs ++ ys) ≡ bitsOf k xs ++ bitsOf k ys → (b : Bool)
-        → cond b (x .bits ∷ bitsOf k (xs ++ ys)) (bitsOf k (xs ++ ys)) ≡ cond b (x .bits ∷ bitsOf k xs) (bitsOf k xs) ++ bitsOf k ys
+    go : valuesOf k (xs ++ ys) ≡ valuesOf k xs ++ valuesOf k ys → (b : Bool)
+        → cond b (x .bits ∷ valuesOf k (xs ++ ys)) (valuesOf k (xs ++ ys)) ≡ cond b (x .bits ∷ valuesOf k xs) (valuesOf k xs) ++ valuesOf k ys
     go ih true = ap (λ (l : List ℕ). x .bits ∷ l) ih
     go ih false = ih
 
@@ -63,18 +63,19 @@ module _ (F : ℕ → Section) (keyed : (k : ℕ) → (F k) .key ≡ k) (k : ℕ
       go ih (more h) (no d) =
           rw (le-ltb a l (omega arith), ne-eqb a l (λ e. omega arith), find-not l (map F (insertKey a ls)) d, find-not l (map F ls) d) ih
 
+-- whether a list has a member
 abbrev nonEmpty : List ℕ → Bool
 nonEmpty [] = false
 nonEmpty (b ∷ bs) = true
 
-find-keys : (F : ℕ → Section) → ((k : ℕ) → (F k) .key ≡ k) → (k : ℕ) (rows : List Row)
-    → find k (map F (keysOf rows)) ≡ cond (nonEmpty (bitsOf k rows)) (some (F k)) none
-unfolding keysOf bitsOf
-find-keys F keyed k [] = find-nil k
-find-keys F keyed k (r ∷ rs) = find-insert F keyed k (r .key) (keysOf rs) ∙ go (find-keys F keyed k rs) (eqb k (r .key))
+find-numbers : (F : ℕ → Section) → ((k : ℕ) → (F k) .key ≡ k) → (k : ℕ) (rows : List Row)
+    → find k (map F (sectionNumbers rows)) ≡ cond (nonEmpty (valuesOf k rows)) (some (F k)) none
+unfolding sectionNumbers valuesOf
+find-numbers F keyed k [] = find-nil k
+find-numbers F keyed k (r ∷ rs) = find-insert F keyed k (r .key) (sectionNumbers rs) ∙ go (find-numbers F keyed k rs) (eqb k (r .key))
   where
-    go : find k (map F (keysOf rs)) ≡ cond (nonEmpty (bitsOf k rs)) (some (F k)) none → (b : Bool)
-        → cond b (some (F k)) (find k (map F (keysOf rs))) ≡ cond (nonEmpty (cond b (r .bits ∷ bitsOf k rs) (bitsOf k rs))) (some (F k)) none
+    go : find k (map F (sectionNumbers rs)) ≡ cond (nonEmpty (valuesOf k rs)) (some (F k)) none → (b : Bool)
+        → cond b (some (F k)) (find k (map F (sectionNumbers rs))) ≡ cond (nonEmpty (cond b (r .bits ∷ valuesOf k rs) (valuesOf k rs))) (some (F k)) none
     go ih true = refl
     go ih false = ih
 
@@ -83,10 +84,10 @@ unfolding sectionIf
 if-nonEmpty k [] = refl
 if-nonEmpty k (b ∷ bs) = refl
 
-pub find-canonical : (k : ℕ) (rows : List Row) → find k (canonical rows) ≡ sectionIf k (bitsOf k rows)
+pub find-canonical : (k : ℕ) (rows : List Row) → find k (canonical rows) ≡ sectionIf k (valuesOf k rows)
 unfolding canonical
 find-canonical k rows =
-    find-keys (λ l. sectionOf l (bitsOf l rows)) (λ l. section-key l (topOf (bitsOf l rows)) (bitsOf l rows)) k rows ∙ if-nonEmpty k (bitsOf k rows)
+    find-numbers (λ l. sectionOf l (valuesOf l rows)) (λ l. section-key l (topOf (valuesOf l rows)) (valuesOf l rows)) k rows ∙ if-nonEmpty k (valuesOf k rows)
 
 -- ---- its keys rise
 insert-above : (k a : ℕ) (ls : List ℕ) → k < a → Above k ls → Above k (insertKey a ls)
@@ -109,36 +110,36 @@ insert-rising a (l ∷ ls) r = go (tri a l)
     go (same e) = rw (le-ltb a l (omega arith), eq-eqb a l e) r
     go (more e) = rw (le-ltb a l (omega arith), ne-eqb a l (λ q. omega arith)) (insert-above l a ls e r)
 
-keys-rising : (rows : List Row) → Rising (keysOf rows)
-unfolding keysOf
-keys-rising [] = tt
-keys-rising (r ∷ rs) = insert-rising (r .key) (keysOf rs) (keys-rising rs)
+numbers-rising : (rows : List Row) → Rising (sectionNumbers rows)
+unfolding sectionNumbers
+numbers-rising [] = tt
+numbers-rising (r ∷ rs) = insert-rising (r .key) (sectionNumbers rs) (numbers-rising rs)
 
-keys-back : (g : ℕ → List ℕ) (ls : List ℕ) → keysIn (map (λ l. sectionOf l (g l)) ls) ≡ ls
-keys-back g [] = refl
-keys-back g (l ∷ ls) = ap₂ _∷_ (section-key l (topOf (g l)) (g l)) (keys-back g ls)
+numbers-back : (g : ℕ → List ℕ) (ls : List ℕ) → keysIn (map (λ l. sectionOf l (g l)) ls) ≡ ls
+numbers-back g [] = refl
+numbers-back g (l ∷ ls) = ap₂ _∷_ (section-key l (topOf (g l)) (g l)) (numbers-back g ls)
 
 pub canonical-rising : (rows : List Row) → Rising (keysIn (canonical rows))
 unfolding canonical
-canonical-rising rows = rw (keys-back (λ k. bitsOf k rows) (keysOf rows)) (keys-rising rows)
+canonical-rising rows = rw (numbers-back (λ k. valuesOf k rows) (sectionNumbers rows)) (numbers-rising rows)
 
 -- ---- it is the one rising table in which the sections of the rows are found
-pub is-canonical : (ts : List Section) (rows : List Row) → Rising (keysIn ts) → ((k : ℕ) → find k ts ≡ sectionIf k (bitsOf k rows)) → ts ≡ canonical rows
+pub is-canonical : (ts : List Section) (rows : List Row) → Rising (keysIn ts) → ((k : ℕ) → find k ts ≡ sectionIf k (valuesOf k rows)) → ts ≡ canonical rows
 is-canonical ts rows a e = find-ext ts (canonical rows) a (canonical-rising rows) (λ k. e k ∙ sym (find-canonical k rows))
 
-only-row : (r : Row) (l : ℕ) → Dec (l ≡ r .key) → only l (sectionOf (r .key) (r .bits ∷ [])) ≡ sectionIf l (bitsOf l (r ∷ []))
-unfolding sectionIf bitsOf
+only-row : (r : Row) (l : ℕ) → Dec (l ≡ r .key) → only l (sectionOf (r .key) (r .bits ∷ [])) ≡ sectionIf l (valuesOf l (r ∷ []))
+unfolding sectionIf valuesOf
 only-row r l (yes e) =
-    only-is l _ (e ∙ sym (section-key (r .key) (topOf (r .bits ∷ [])) (r .bits ∷ []))) ∙ rw (bits-is l r [] e) (ap (λ (k : ℕ). some (sectionOf k (r .bits ∷ []))) (sym e))
-only-row r l (no e) = only-not l _ (λ q. e (q ∙ section-key (r .key) (topOf (r .bits ∷ [])) (r .bits ∷ []))) ∙ rw (bits-not l r [] e)
+    only-is l _ (e ∙ sym (section-key (r .key) (topOf (r .bits ∷ [])) (r .bits ∷ []))) ∙ rw (values-is l r [] e) (ap (λ (k : ℕ). some (sectionOf k (r .bits ∷ []))) (sym e))
+only-row r l (no e) = only-not l _ (λ q. e (q ∙ section-key (r .key) (topOf (r .bits ∷ [])) (r .bits ∷ []))) ∙ rw (values-not l r [] e)
 
 absorb-row : (rows : List Row) (r : Row) → absorb (ofRow r) (canonical rows) ≡ canonical (rows ++ (r ∷ []))
 absorb-row rows r =
     is-canonical _ (rows ++ (r ∷ [])) (absorb-rising _ (canonical rows) (canonical-rising rows))
     (λ l. find-absorb (ofRow r) l (canonical rows) (canonical-rising rows)
     ∙ ap₂ join (find-canonical l rows) (ap (only l) (row-section r) ∙ only-row r l (ℕ-discrete l (r .key)))
-    ∙ join-sections l (bitsOf l rows) (bitsOf l (r ∷ []))
-    ∙ ap (sectionIf l) (sym (bits-append l rows (r ∷ []))))
+    ∙ join-sections l (valuesOf l rows) (valuesOf l (r ∷ []))
+    ∙ ap (sectionIf l) (sym (values-append l rows (r ∷ []))))
 
 pub added-canonical : (rows rs : List Row) → added (canonical rows) rs ≡ canonical (rows ++ rs)
 unfolding added
@@ -151,5 +152,5 @@ merged-canonical xs ys =
     is-canonical _ (xs ++ ys) (merged-rising (canonical xs) (canonical ys) (canonical-rising xs))
     (λ l. find-merged (canonical xs) (canonical ys) l (canonical-rising xs) (canonical-rising ys)
     ∙ ap₂ join (find-canonical l xs) (find-canonical l ys)
-    ∙ join-sections l (bitsOf l xs) (bitsOf l ys)
-    ∙ ap (sectionIf l) (sym (bits-append l xs ys)))
+    ∙ join-sections l (valuesOf l xs) (valuesOf l ys)
+    ∙ ap (sectionIf l) (sym (values-append l xs ys)))

@@ -3,8 +3,7 @@ pub mod Sections
 pub mod Canonical
 pub mod Order
 pub mod Near
-pub mod Finishing
-pub mod Fit
+pub mod Questions
+pub mod Tables
 pub mod Calls
 pub mod Demand
-pub mod Contracts

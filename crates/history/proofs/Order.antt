@@ -1,7 +1,7 @@
--- The same rows, repeats counted, give the same table, whatever their order.
+-- Rows that occur equally often are a permutation of each other, and a permutation keeps each section; so the same rows give the same table.
 use Prim.Native.Nat.{ℕ, suc, _+_, _<_}
 use mathlib.Core.Path.{_≡_, refl, sym, _∙_, ap, subst}
-use mathlib.Core.Bool.{false, cond}
+use mathlib.Core.Bool.{true, false, cond}
 use mathlib.Core.List.{List, [], _∷_}
 use mathlib.Core.Option.{Option}
 use native.Mathlib.Omega.{arith}
@@ -10,10 +10,10 @@ use borrow.Author.Tests.{eq-eqb, ne-eqb}
 use Rattle.record.specs.Section.{Section}
 use Rattle.columns.specs.Columns.{Row}
 use Rattle.table.proofs.Lookup.{join, join-assoc}
-use Rattle.history.specs.Rows.{equalRows, occurs, SameRows, bitsOf}
+use Rattle.history.specs.Rows.{equalRows, occurs, SameRows, valuesOf}
 use Rattle.history.specs.Canonical.{sectionIf, canonical}
 use Rattle.history.proofs.Sections.{join-sections, join-comm}
-use Rattle.history.proofs.Canonical.{bits-append, is-canonical, find-canonical, canonical-rising}
+use Rattle.history.proofs.Canonical.{values-append, is-canonical, find-canonical, canonical-rising}
 
 -- ys is xs in another order
 data Permutation : List Row → List Row → Type 0 where
@@ -23,7 +23,7 @@ data Permutation : List Row → List Row → Type 0 where
   both : {xs ys zs : List Row} → Permutation xs ys → Permutation ys zs → Permutation xs zs
 
 -- ---- equal occurrences make a permutation
-decRow : (r s : Row) → Dec (r ≡ s)
+pub decRow : (r s : Row) → Dec (r ≡ s)
 decRow r s = go (ℕ-discrete (r .key) (s .key)) (ℕ-discrete (r .bits) (s .bits))
   where
     go : Dec (r .key ≡ s .key) → Dec (r .bits ≡ s .bits) → Dec (r ≡ s)
@@ -31,18 +31,23 @@ decRow r s = go (ℕ-discrete (r .key) (s .key)) (ℕ-discrete (r .bits) (s .bit
     go (yes e) (no f) = no (λ q. f (ap (λ (x : Row). x .bits) q))
     go (no e) d = no (λ q. e (ap (λ (x : Row). x .key) q))
 
-occurs-is : (r s : Row) (ss : List Row) → r ≡ s → occurs r (s ∷ ss) ≡ suc (occurs r ss)
-unfolding occurs
-occurs-is r s ss e =
-    rw (eq-eqb (r .key) (s .key) (ap (λ (x : Row). x .key) e), eq-eqb (r .bits) (s .bits) (ap (λ (x : Row). x .bits) e)) (omega arith)
+pub equal-is : (r s : Row) → r ≡ s → equalRows r s ≡ true
+equal-is r s e = rw (eq-eqb (r .key) (s .key) (ap (λ (x : Row). x .key) e), eq-eqb (r .bits) (s .bits) (ap (λ (x : Row). x .bits) e))
 
-differ : (r s : Row) → (r ≡ s → ⊥) → Dec (r .key ≡ s .key) → equalRows r s ≡ false
-differ r s h (yes e) = rw (eq-eqb (r .key) (s .key) e, ne-eqb (r .bits) (s .bits) (λ f. h (λ i. record { key = e i; bits = f i })))
-differ r s h (no e) = rw (ne-eqb (r .key) (s .key) e)
+pub equal-not : (r s : Row) → (r ≡ s → ⊥) → equalRows r s ≡ false
+equal-not r s h = go (ℕ-discrete (r .key) (s .key))
+  where
+    go : Dec (r .key ≡ s .key) → equalRows r s ≡ false
+    go (yes e) = rw (eq-eqb (r .key) (s .key) e, ne-eqb (r .bits) (s .bits) (λ f. h (λ i. record { key = e i; bits = f i })))
+    go (no e) = rw (ne-eqb (r .key) (s .key) e)
 
-occurs-not : (r s : Row) (ss : List Row) → (r ≡ s → ⊥) → occurs r (s ∷ ss) ≡ occurs r ss
+pub occurs-is : (r s : Row) (ss : List Row) → r ≡ s → occurs r (s ∷ ss) ≡ suc (occurs r ss)
 unfolding occurs
-occurs-not r s ss h = rw (differ r s h (ℕ-discrete (r .key) (s .key))) (omega arith)
+occurs-is r s ss e = rw (equal-is r s e) (omega arith)
+
+pub occurs-not : (r s : Row) (ss : List Row) → (r ≡ s → ⊥) → occurs r (s ∷ ss) ≡ occurs r ss
+unfolding occurs
+occurs-not r s ss h = rw (equal-not r s h) (omega arith)
 
 occurs-permuted : (r : Row) {xs ys : List Row} → Permutation xs ys → occurs r xs ≡ occurs r ys
 unfolding occurs
@@ -77,24 +82,27 @@ permuted (x ∷ xs) ys h = go (permuted xs) (pull x ys (omega (arith, h x, occur
 
 -- ---- a permutation keeps each section
 module _ (k : ℕ) where
+  -- the section of one row, where it has the number k
   abbrev one : Row → Option Section
-  one x = sectionIf k (bitsOf k (x ∷ []))
+  one x = sectionIf k (valuesOf k (x ∷ []))
 
-  cons : (x : Row) (xs : List Row) → sectionIf k (bitsOf k (x ∷ xs)) ≡ join (one x) (sectionIf k (bitsOf k xs))
-  cons x xs = ap (sectionIf k) (bits-append k (x ∷ []) xs) ∙ sym (join-sections k (bitsOf k (x ∷ [])) (bitsOf k xs))
+  cons : (x : Row) (xs : List Row) → sectionIf k (valuesOf k (x ∷ xs)) ≡ join (one x) (sectionIf k (valuesOf k xs))
+  cons x xs = ap (sectionIf k) (values-append k (x ∷ []) xs) ∙ sym (join-sections k (valuesOf k (x ∷ [])) (valuesOf k xs))
 
-  two : (x y : Row) (xs : List Row) → sectionIf k (bitsOf k (x ∷ y ∷ xs)) ≡ join (join (one x) (one y)) (sectionIf k (bitsOf k xs))
-  two x y xs = cons x (y ∷ xs) ∙ ap (join (one x)) (cons y xs) ∙ sym (join-assoc (one x) (one y) (sectionIf k (bitsOf k xs)))
+  two : (x y : Row) (xs : List Row) → sectionIf k (valuesOf k (x ∷ y ∷ xs)) ≡ join (join (one x) (one y)) (sectionIf k (valuesOf k xs))
+  two x y xs = cons x (y ∷ xs) ∙ ap (join (one x)) (cons y xs) ∙ sym (join-assoc (one x) (one y) (sectionIf k (valuesOf k xs)))
 
-  section-permuted : {xs ys : List Row} → Permutation xs ys → sectionIf k (bitsOf k xs) ≡ sectionIf k (bitsOf k ys)
+  section-permuted : {xs ys : List Row} → Permutation xs ys → sectionIf k (valuesOf k xs) ≡ sectionIf k (valuesOf k ys)
   section-permuted still = refl
   section-permuted (skip {x = x} {xs = xs} {ys = ys} h) = cons x xs ∙ ap (join (one x)) (section-permuted h) ∙ sym (cons x ys)
   section-permuted (swap {x = x} {y = y} {xs = xs}) =
       two x y xs
-      ∙ ap (λ (o : Option Section). join o (sectionIf k (bitsOf k xs))) (join-comm k (bitsOf k (x ∷ [])) (bitsOf k (y ∷ [])))
+      ∙ ap (λ (o : Option Section). join o (sectionIf k (valuesOf k xs))) (join-comm k (valuesOf k (x ∷ [])) (valuesOf k (y ∷ [])))
       ∙ sym (two y x xs)
   section-permuted (both h l) = section-permuted h ∙ section-permuted l
 
+pub section-same : (k : ℕ) (xs ys : List Row) → SameRows xs ys → sectionIf k (valuesOf k xs) ≡ sectionIf k (valuesOf k ys)
+section-same k xs ys h = section-permuted k (permuted xs ys (h .counts))
+
 pub canonical-same : (xs ys : List Row) → SameRows xs ys → canonical xs ≡ canonical ys
-canonical-same xs ys h =
-    is-canonical (canonical xs) ys (canonical-rising xs) (λ k. find-canonical k xs ∙ section-permuted k (permuted xs ys (h .counts)))
+canonical-same xs ys h = is-canonical (canonical xs) ys (canonical-rising xs) (λ k. find-canonical k xs ∙ section-same k xs ys h)

@@ -7,6 +7,7 @@ use Rattle.codec.specs.Bytes.{number, bytes, numberAt}
 use Rattle.codec.specs.Cells.{cells, image}
 use Rattle.refusal.specs.Outcome.{accepted, refused}
 use Rattle.level.specs.Level.{topFrom, top, given, contribution, topOf, total}
+use Rattle.columns.specs.declared.Kind.the-variants.{Double}
 use Rattle.columns.specs.Columns.{Row, rowsFrom, columnsFit, rowsOf}
 use Rattle.record.specs.Section.{Section, sections, written, find, kept}
 use Rattle.finish.specs.Sum.{tooLarge, nearestDouble}
@@ -17,28 +18,29 @@ use Rattle.record.specs.Layout.{encode, decode}
 use Rattle.record.specs.Keys.{rising}
 use Rattle.record.specs.Sound.{soundHeld, isZero, soundRecord, soundRecords, sound}
 use Rattle.table.specs.Combine.{ofRow, levelOf, combine, absorb, merged, added}
-use Rattle.table.specs.Calls.{addGrounds, mergeGrounds}
+use Rattle.table.specs.Calls.{addGrounds, columnGrounds, mergeGrounds}
 use Rattle.lists.specs.Lists.{anyOf}
-use Rattle.history.specs.Rows.{bitsOf, insertKey, keysOf}
+use Rattle.history.specs.Rows.{valuesOf, insertKey, sectionNumbers}
 use Rattle.history.specs.Canonical.{sectionAtTop, canonical}
-use Rattle.history.specs.Calls.{Call, add, merge, sum, figure, line, tooManyRows, tooManyKeys, addRowsGrounds, mergeRowsGrounds, stepRows, rowsAfter}
+use Rattle.history.specs.Calls.{sum, figure, line, Call, add, merge, ask, tooManyRows, tooManyKeys, addRowsGrounds, mergeRowsGrounds, noRows, stepRows, ledgerAfter}
 use Rattle.history.specs.Demand3.{History}
-use Rattle.history.specs.Run.{Store, groupsAre, sumIs, figureIs, lineIs, step, tablesAfter, answer, answers}
+use Rattle.history.specs.Run.{Store, State, noGroups, groupsAre, sumIs, figureIs, lineIs, step, stateAfter, askTable, answer, answers}
 
--- tables in buffers of 128 bytes: room for two sections
+-- a buffer of 128 bytes: room for two sections
 abbrev first : List ℕ
 first = replicate 128 255
 
-abbrev start : ℕ → Store
-start i = record { bytes = first; groups = 0 }
+-- every table is empty, in such a buffer
+abbrev start : State
+start = noGroups (λ i. first)
 
 -- an add to table i of rows given by their keys and bits
 abbrev addTo : ℕ → List ℕ → List ℕ → Call
-addTo i ks vs = add i (image (bytes 4) ks) (image (bytes 8) vs) 128
+addTo i ks vs = add i Double (image (bytes 4) ks) (image (bytes 8) vs) 128
 
 -- an add that is refused, since three key bytes are no column
 abbrev refusedAdd : Call
-refusedAdd = add 0 (7 ∷ 0 ∷ 0 ∷ []) [] 128
+refusedAdd = add 0 Double (7 ∷ 0 ∷ 0 ∷ []) [] 128
 
 -- 1 and 2^60 in section 7, the smallest double in section 3
 abbrev rows : List Row
@@ -46,8 +48,8 @@ rows = record { key = 7; bits = 0x3FF0000000000000 } ∷ record { key = 3; bits 
 
 -- what a list of calls leaves in table 0
 left : List Call → Store
-unfolding tablesAfter step answers answer addGrounds mergeGrounds sound rising cells soundRecords soundRecord soundHeld isZero columnsFit image bytes anyOf rowsOf rowsFrom number numberAt added merged absorb combine levelOf ofRow top topFrom given contribution encode decode
-left cs = tablesAfter start cs 0
+unfolding stateAfter step answers answer askTable addGrounds columnGrounds mergeGrounds sound rising cells soundRecords soundRecord soundHeld isZero columnsFit image bytes anyOf rowsOf rowsFrom number numberAt added merged absorb combine levelOf ofRow top topFrom given contribution encode decode
+left cs = stateAfter start cs .tables 0
 
 -- the same rows in one add, in another order, in two adds, merged from another table, merged the other way round, and with a refused add between
 abbrev ways : List (List Call)
@@ -61,7 +63,7 @@ ways =
     ∷ []
 
 one-table : map left ways ≡ replicate 6 (record { bytes = written (canonical rows) first; groups = 2 })
-unfolding left canonical keysOf insertKey bitsOf sectionAtTop topOf total
+unfolding left canonical sectionNumbers insertKey valuesOf sectionAtTop topOf total
 one-table = refl
 
 -- a table merged twice counts twice, in the rows and in the record
@@ -73,8 +75,8 @@ example : History
 unfolding left
 example = record { start = λ (i : ℕ). first; calls = twice; lent = refl }
 
-rows-twice : map (λ (r : Row). r .bits) (rowsAfter (λ (i : ℕ). 128) (λ (i : ℕ). []) twice 0) ≡ 1 ∷ 2 ∷ 2 ∷ []
-unfolding left rowsAfter stepRows mergeRowsGrounds tooManyRows keysOf addRowsGrounds insertKey bitsOf tooManyKeys
+rows-twice : map (λ (r : Row). r .bits) (ledgerAfter (λ (i : ℕ). 128) noRows twice .rows 0) ≡ 1 ∷ 2 ∷ 2 ∷ []
+unfolding left ledgerAfter stepRows mergeRowsGrounds tooManyRows sectionNumbers addRowsGrounds insertKey valuesOf tooManyKeys
 rows-twice = refl
 
 count-twice : map (λ (t : Section). t .count) (sections (left twice .bytes) 1) ≡ 3 ∷ []
@@ -88,7 +90,7 @@ unfolding left
 numbers = refl
 
 -- B10 in a table: 2^60, 1 and -2^60 sum to 1; mill figure 100; section 8 is absent
-finished : answers start (addTo 0 (7 ∷ 7 ∷ 7 ∷ []) (0x43B0000000000000 ∷ 0x3FF0000000000000 ∷ 0xC3B0000000000000 ∷ []) ∷ sum 0 7 ∷ figure 0 7 ∷ line 0 8 ∷ [])
+finished : answers start (addTo 0 (7 ∷ 7 ∷ 7 ∷ []) (0x43B0000000000000 ∷ 0x3FF0000000000000 ∷ 0xC3B0000000000000 ∷ []) ∷ ask 0 (sum 7) ∷ ask 0 (figure 7) ∷ ask 0 (line 8) ∷ [])
     ≡ groupsAre (accepted 1) ∷ sumIs (accepted (ofBits binary64 0x3FF0000000000000)) ∷ figureIs (accepted (pos 100)) ∷ lineIs (refused 13) ∷ []
 unfolding left find kept tooLarge nearestDouble millFigure beyond ofBits round
 finished = refl

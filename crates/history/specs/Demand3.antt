@@ -2,7 +2,7 @@
 use Prim.Native.Nat.{ℕ, _*_, _^_, _≤_, _<_}
 use mathlib.Core.Path.{_≡_}
 use mathlib.Core.Bool.{true, false, not}
-use mathlib.Core.List.{List, []}
+use mathlib.Core.List.{List}
 use mathlib.Core.Option.{none, some}
 use lib.ListN.{length, take}
 use lib.IntN.{_-ℤ_, natAbs}
@@ -10,12 +10,11 @@ use Rattle.level.specs.Level.{exactSum}
 use Rattle.columns.specs.Columns.{Row}
 use Rattle.record.specs.Sound.{sound}
 use Rattle.record.specs.Section.{Section, sections, written, find, kept}
-use Rattle.finish.specs.Finish.{sumOf, figureOf, lineOf}
 use Rattle.lists.specs.Lists.{anyOf}
-use Rattle.history.specs.Rows.{SameRows, bitsOf, largest}
+use Rattle.history.specs.Rows.{SameRows, valuesOf, largest}
 use Rattle.history.specs.Canonical.{canonical}
-use Rattle.history.specs.Calls.{Call, lendsBytes, rowsAfter}
-use Rattle.history.specs.Run.{Store, sumIn, figureIn, lineIn, tablesAfter, answers, answersRows, refuses}
+use Rattle.history.specs.Calls.{Question, Call, lendsBytes, noRows, ledgerAfter}
+use Rattle.history.specs.Run.{Store, State, noGroups, stateAfter, askTable, askRows, answers, answersRows, refuses}
 
 -- a way of working: the bytes in each table's buffer at the start, and the calls
 pub record History : Type 0 where
@@ -23,13 +22,9 @@ pub record History : Type 0 where
   pub calls : List Call
   pub lent : anyOf (λ (c : Call). not (lendsBytes c)) calls ≡ false
 
--- the tables at the start: no groups
-abbrev pub empty : History → ℕ → Store
-empty h i = record { bytes = h .start i; groups = 0 }
-
--- a table has no rows at the start
-abbrev pub noRows : ℕ → List Row
-noRows i = []
+-- the state at the start: every table is empty
+abbrev pub empty : History → State
+empty h = noGroups (h .start)
 
 -- the lent lengths
 abbrev pub lengths : History → ℕ → ℕ
@@ -37,11 +32,11 @@ lengths h i = length (h .start i)
 
 -- table i's rows after it, counted from the calls alone
 abbrev pub rows : History → ℕ → List Row
-rows h i = rowsAfter (lengths h) noRows (h .calls) i
+rows h i = ledgerAfter (lengths h) noRows (h .calls) .rows i
 
 -- table i after it
 abbrev pub table : History → ℕ → Store
-table h i = tablesAfter (empty h) (h .calls) i
+table h i = stateAfter (empty h) (h .calls) .tables i
 
 -- document 01's used bytes
 abbrev pub used : Store → List ℕ
@@ -61,21 +56,18 @@ pub record Demand3 : Type 0 where
   -- every call is answered by the conditions on the rows, its inputs and the lent lengths; so 7 is never an answer
   pub answered : (h : History) → answers (empty h) (h .calls) ≡ answersRows (lengths h) noRows (h .calls)
   pub never-7 : (h : History) → anyOf (refuses 7) (answers (empty h) (h .calls)) ≡ false
-  -- tables with the same rows, after any two ways of working, have the same group count, used bytes, sums, mill figures and finished lines
+  -- tables with the same rows, after any two ways of working, have the same group count, used bytes and answers to every question: sums, mill figures and
+  -- finished lines
   pub same-groups : (h h′ : History) (i j : ℕ) → SameRows (rows h i) (rows h′ j) → table h i .groups ≡ table h′ j .groups
   pub same-bytes : (h h′ : History) (i j : ℕ) → SameRows (rows h i) (rows h′ j) → used (table h i) ≡ used (table h′ j)
-  pub same-sum : (h h′ : History) (i j k : ℕ) → SameRows (rows h i) (rows h′ j) → sumIn (table h i) k ≡ sumIn (table h′ j) k
-  pub same-figure : (h h′ : History) (i j k : ℕ) → SameRows (rows h i) (rows h′ j) → figureIn (table h i) k ≡ figureIn (table h′ j) k
-  pub same-line : (h h′ : History) (i j k : ℕ) → SameRows (rows h i) (rows h′ j) → lineIn (table h i) k ≡ lineIn (table h′ j) k
-  -- and these are the sum, mill figure and finished line of the table that document 01 fixes for the rows
-  pub fixed-sum : (h : History) (i k : ℕ) → sumIn (table h i) k ≡ sumOf (find k (canonical (rows h i)))
-  pub fixed-figure : (h : History) (i k : ℕ) → figureIn (table h i) k ≡ figureOf (find k (canonical (rows h i)))
-  pub fixed-line : (h : History) (i k : ℕ) → lineIn (table h i) k ≡ lineOf (find k (canonical (rows h i)))
+  pub same-answer : (h h′ : History) (i j : ℕ) (q : Question) → SameRows (rows h i) (rows h′ j) → askTable (table h i) q ≡ askTable (table h′ j) q
+  -- and these are the answers that document 01 fixes for the rows
+  pub fixed-answer : (h : History) (i : ℕ) (q : Question) → askTable (table h i) q ≡ askRows (rows h i) q
   -- a section without a row has no record
-  pub absent : (h : History) (i k : ℕ) → length (bitsOf k (rows h i)) ≡ 0 → find k (sectionsIn (table h i)) ≡ none
+  pub absent : (h : History) (i k : ℕ) → length (valuesOf k (rows h i)) ≡ 0 → find k (sectionsIn (table h i)) ≡ none
   -- a section with a row has one: its count is the number of its rows, and its kept value lies within
   -- (the number of its rows) × (its largest row in size) × 2^-80 of their exact sum
-  pub present : (h : History) (i k : ℕ) → 0 < length (bitsOf k (rows h i))
+  pub present : (h : History) (i k : ℕ) → 0 < length (valuesOf k (rows h i))
       → (s : Section) × (find k (sectionsIn (table h i)) ≡ some s)
-      × (s .count ≡ length (bitsOf k (rows h i)))
-      × (natAbs (kept s -ℤ exactSum (bitsOf k (rows h i))) * 2 ^ 80 ≤ length (bitsOf k (rows h i)) * largest (bitsOf k (rows h i)))
+      × (s .count ≡ length (valuesOf k (rows h i)))
+      × (natAbs (kept s -ℤ exactSum (valuesOf k (rows h i))) * 2 ^ 80 ≤ length (valuesOf k (rows h i)) * largest (valuesOf k (rows h i)))

@@ -1,4 +1,4 @@
--- What is read off a list of rows: how often each occurs, the sections they name, the bits and the largest size of a section's rows.
+-- What is read off a list of rows: how often each occurs, the sections they name, the values and the largest size of a section's rows.
 use Prim.Native.Nat.{ℕ, _+_, max}
 use mathlib.Core.Path.{_≡_}
 use mathlib.Core.Bool.{Bool, cond, _&&_}
@@ -16,14 +16,14 @@ unfoldable pub occurs : Row → List Row → ℕ
 occurs r [] = 0
 occurs r (s ∷ ss) = cond (equalRows r s) 1 0 + occurs r ss
 
--- the same rows, repeats counted
+-- the same rows, repeats counted: the same multiset of rows
 pub record SameRows (xs ys : List Row) : Type 0 where
   pub counts : (r : Row) → occurs r xs ≡ occurs r ys
 
--- the bits of section k's rows
-unfoldable pub bitsOf : ℕ → List Row → List ℕ
-bitsOf k [] = []
-bitsOf k (r ∷ rs) = cond (eqb k (r .key)) (r .bits ∷ bitsOf k rs) (bitsOf k rs)
+-- the values of section k's rows, by their bits
+unfoldable pub valuesOf : ℕ → List Row → List ℕ
+valuesOf k [] = []
+valuesOf k (r ∷ rs) = cond (eqb k (r .key)) (r .bits ∷ valuesOf k rs) (valuesOf k rs)
 
 -- k put in its place among rising numbers, unless it is there
 unfoldable pub insertKey : ℕ → List ℕ → List ℕ
@@ -31,9 +31,9 @@ insertKey k [] = k ∷ []
 insertKey k (l ∷ ls) = cond (ltb k l) (k ∷ l ∷ ls) (cond (eqb k l) (l ∷ ls) (l ∷ insertKey k ls))
 
 -- the distinct section numbers of the rows, rising
-unfoldable pub keysOf : List Row → List ℕ
-keysOf [] = []
-keysOf (r ∷ rs) = insertKey (r .key) (keysOf rs)
+unfoldable pub sectionNumbers : List Row → List ℕ
+sectionNumbers [] = []
+sectionNumbers (r ∷ rs) = insertKey (r .key) (sectionNumbers rs)
 
 -- the size of the largest row
 unfoldable pub largest : List ℕ → ℕ

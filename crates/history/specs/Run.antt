@@ -1,23 +1,35 @@
 -- Lists of calls run on bytes: each call gets a table's bytes and group count as the last call on it left them. And what each call answers.
 use Prim.Native.Nat.{ℕ}
-use mathlib.Core.Bool.{Bool, false}
+use mathlib.Core.Bool.{Bool}
 use mathlib.Core.List.{List, [], _∷_}
-use lib.Dec.{eqb}
 use lib.IntN.{ℤ}
 use lib.Ieee.{Float}
-use Rattle.refusal.specs.Outcome.{Outcome, accepted, refused}
+use Rattle.refusal.specs.Outcome.{Outcome, accepted, refused, isRefusal}
 use Rattle.finish.specs.declared.FinishedLine.{FinishedLine}
 use Rattle.finish.specs.Finish.{sumOf, figureOf, lineOf, sumOutcome, figureOutcome, lineOutcome}
+use Rattle.columns.specs.declared.Kind.{Kind}
 use Rattle.columns.specs.Columns.{Row}
 use Rattle.table.specs.Calls.{addOutcome, addLeaves, mergeOutcome, mergeLeaves}
-use Rattle.history.specs.Rows.{bitsOf}
+use Rattle.history.specs.Rows.{valuesOf}
 use Rattle.history.specs.Canonical.{sectionIf}
-use Rattle.history.specs.Calls.{Call, add, merge, sum, figure, line, put, addRowsOutcome, mergeRowsOutcome, stepRows}
+use Rattle.history.specs.Calls.{Question, sum, figure, line, Call, add, merge, ask, Ledger, put, addRowsOutcome, mergeRowsOutcome, stepRows}
 
 -- a table as it is lent: the bytes of its buffer, and its group count
 pub record Store : Type 0 where
   pub bytes : List ℕ
   pub groups : ℕ
+
+-- the state of a way of working: its tables
+pub record State : Type 0 where
+  pub tables : ℕ → Store
+
+-- no table has groups; start i are the bytes in table i's buffer
+abbrev pub noGroups : (ℕ → List ℕ) → State
+noGroups start = record { tables = λ i. record { bytes = start i; groups = 0 } }
+
+-- the state with t as table i
+abbrev pub setTable : ℕ → Store → State → State
+setTable i t s = record { tables = put i t (s .tables) }
 
 -- the table after a call that leaves the bytes s: an accepted one gives the new group count
 abbrev pub after : Outcome ℕ → List ℕ → ℕ → Store
@@ -25,26 +37,24 @@ after (accepted n) s g = record { bytes = s; groups = n }
 after (refused n) s g = record { bytes = s; groups = g }
 
 -- the table t after an add
-abbrev pub afterAdd : Store → List ℕ → List ℕ → ℕ → Store
-afterAdd t ks vs work = after (addOutcome (t .bytes) (t .groups) ks vs work) (addLeaves (t .bytes) (t .groups) ks vs work) (t .groups)
+abbrev pub afterAdd : Kind → Store → List ℕ → List ℕ → ℕ → Store
+afterAdd kind t ks vs work = after (addOutcome kind (t .bytes) (t .groups) ks vs work) (addLeaves kind (t .bytes) (t .groups) ks vs work) (t .groups)
 
 -- the table t after a merge of u into it
 abbrev pub afterMerge : Store → Store → Store
 afterMerge t u =
     after (mergeOutcome (t .bytes) (t .groups) (u .bytes) (u .groups)) (mergeLeaves (t .bytes) (t .groups) (u .bytes) (u .groups)) (t .groups)
 
--- every table after one call; a finishing changes none
-unfoldable pub step : (ℕ → Store) → Call → ℕ → Store
-step t (add i ks vs work) = put i (afterAdd (t i) ks vs work) t
-step t (merge i j d) = put i (afterMerge (t i) (t j)) t
-step t (sum i k) = t
-step t (figure i k) = t
-step t (line i k) = t
+-- the state after one call; a question changes nothing
+unfoldable pub step : State → Call → State
+step s (add i kind ks vs work) = setTable i (afterAdd kind (s .tables i) ks vs work) s
+step s (merge i j d) = setTable i (afterMerge (s .tables i) (s .tables j)) s
+step s (ask i q) = s
 
--- every table after a list of calls
-unfoldable pub tablesAfter : (ℕ → Store) → List Call → ℕ → Store
-tablesAfter t [] = t
-tablesAfter t (c ∷ cs) = tablesAfter (step t c) cs
+-- the state after a list of calls
+unfoldable pub stateAfter : State → List Call → State
+stateAfter s [] = s
+stateAfter s (c ∷ cs) = stateAfter (step s c) cs
 
 -- ---- answers
 
@@ -55,48 +65,39 @@ pub data Answer : Type 0 where
   figureIs : Outcome ℤ → Answer
   lineIs : Outcome FinishedLine → Answer
 
--- the sum of section k in a table
-abbrev pub sumIn : Store → ℕ → Outcome Float
-sumIn t k = sumOutcome (t .bytes) (t .groups) k
+-- what a question about a table answers
+unfoldable pub askTable : Store → Question → Answer
+askTable t (sum k) = sumIs (sumOutcome (t .bytes) (t .groups) k)
+askTable t (figure k) = figureIs (figureOutcome (t .bytes) (t .groups) k)
+askTable t (line k) = lineIs (lineOutcome (t .bytes) (t .groups) k)
 
--- the mill figure of section k in a table
-abbrev pub figureIn : Store → ℕ → Outcome ℤ
-figureIn t k = figureOutcome (t .bytes) (t .groups) k
+-- what it is to answer by the table's rows alone
+unfoldable pub askRows : List Row → Question → Answer
+askRows rows (sum k) = sumIs (sumOf (sectionIf k (valuesOf k rows)))
+askRows rows (figure k) = figureIs (figureOf (sectionIf k (valuesOf k rows)))
+askRows rows (line k) = lineIs (lineOf (sectionIf k (valuesOf k rows)))
 
--- the finished line of section k in a table
-abbrev pub lineIn : Store → ℕ → Outcome FinishedLine
-lineIn t k = lineOutcome (t .bytes) (t .groups) k
-
--- what a call on these tables answers
-unfoldable pub answer : (ℕ → Store) → Call → Answer
-answer t (add i ks vs work) = groupsAre (addOutcome (t i .bytes) (t i .groups) ks vs work)
-answer t (merge i j d) = groupsAre (mergeOutcome (t i .bytes) (t i .groups) (t j .bytes) (t j .groups))
-answer t (sum i k) = sumIs (sumIn (t i) k)
-answer t (figure i k) = figureIs (figureIn (t i) k)
-answer t (line i k) = lineIs (lineIn (t i) k)
+-- what a call in this state answers
+unfoldable pub answer : State → Call → Answer
+answer s (add i kind ks vs work) = groupsAre (addOutcome kind (s .tables i .bytes) (s .tables i .groups) ks vs work)
+answer s (merge i j d) = groupsAre (mergeOutcome (s .tables i .bytes) (s .tables i .groups) (s .tables j .bytes) (s .tables j .groups))
+answer s (ask i q) = askTable (s .tables i) q
 
 -- what a list of calls answers, one by one
-unfoldable pub answers : (ℕ → Store) → List Call → List Answer
-answers t [] = []
-answers t (c ∷ cs) = answer t c ∷ answers (step t c) cs
+unfoldable pub answers : State → List Call → List Answer
+answers s [] = []
+answers s (c ∷ cs) = answer s c ∷ answers (step s c) cs
 
--- what a call is to answer by the tables' rows alone
-unfoldable pub answerRows : (ℕ → ℕ) → (ℕ → List Row) → Call → Answer
-answerRows len rows (add i ks vs work) = groupsAre (addRowsOutcome (len i) (rows i) ks vs work)
-answerRows len rows (merge i j d) = groupsAre (mergeRowsOutcome (len i) (rows i) (rows j))
-answerRows len rows (sum i k) = sumIs (sumOf (sectionIf k (bitsOf k (rows i))))
-answerRows len rows (figure i k) = figureIs (figureOf (sectionIf k (bitsOf k (rows i))))
-answerRows len rows (line i k) = lineIs (lineOf (sectionIf k (bitsOf k (rows i))))
+-- what a call is to answer by the ledger alone
+unfoldable pub answerRows : (ℕ → ℕ) → Ledger → Call → Answer
+answerRows len l (add i kind ks vs work) = groupsAre (addRowsOutcome kind (len i) (l .rows i) ks vs work)
+answerRows len l (merge i j d) = groupsAre (mergeRowsOutcome (len i) (l .rows i) (l .rows j))
+answerRows len l (ask i q) = askRows (l .rows i) q
 
--- what a list of calls is to answer by the tables' rows alone
-unfoldable pub answersRows : (ℕ → ℕ) → (ℕ → List Row) → List Call → List Answer
-answersRows len rows [] = []
-answersRows len rows (c ∷ cs) = answerRows len rows c ∷ answersRows len (stepRows len rows c) cs
-
--- the outcome is refusal n
-unfoldable pub isRefusal : {A : Type 0} → ℕ → Outcome A → Bool
-isRefusal n (accepted x) = false
-isRefusal n (refused m) = eqb n m
+-- what a list of calls is to answer by the ledger alone
+unfoldable pub answersRows : (ℕ → ℕ) → Ledger → List Call → List Answer
+answersRows len l [] = []
+answersRows len l (c ∷ cs) = answerRows len l c ∷ answersRows len (stepRows len l c) cs
 
 -- the answer is refusal n
 abbrev pub refuses : ℕ → Answer → Bool

@@ -23,13 +23,14 @@ use Rattle.record.specs.Sound.{soundHeld, isZero, soundRecord, soundRecords, so
 use Rattle.record.specs.Section.{Section, meaning, recordOf, sections, sectionBytes, written}
 use Rattle.record.proofs.Laws.{length-encode, HeldInRange, InRange, decode-encode}
 use Rattle.lists.proofs.All.{All}
+use Rattle.table.specs.Calls.{mostRows}
 use Rattle.table.proofs.Lookup.{Above, Rising, keysIn}
 use Rattle.table.proofs.Proper.{Proper}
 
 -- a section whose record is sound
 pub record Fits (s : Section) : Type 0 where
   pub proper : Proper s
-  pub few : s .count ≤ 4294967295
+  pub few : s .count ≤ mostRows
 
 -- ---- one record
 pub meaning-record : (s : Section) → meaning (recordOf s) ≡ s

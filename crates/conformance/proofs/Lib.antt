@@ -1,0 +1,2 @@
+-- The calls' contracts are steps of a way of working.
+pub mod Tied

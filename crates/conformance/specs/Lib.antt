@@ -1,0 +1,2 @@
+-- What it means that a call's contract is a step of a way of working.
+pub mod Conforms
