@@ -2,6 +2,7 @@
 import os
 import pathlib
 import random
+import re
 import struct
 import subprocess
 import sys
@@ -101,6 +102,12 @@ def test_refusals():
     refused(14, girths.sum, *table_of([(1, 1.7976931348623157e308)] * 2), 1)
     refused(15, girths.line, *table_of([(1, 21474836.5)]), 1)
     refused(7, girths.merge, full, g, b'', 1)
+
+
+def test_same_words_in_rust():
+    text = (ROOT / 'bindings' / 'rust' / 'src' / 'lib.rs').read_text()
+    words = re.findall(r'^    "(.*)",$', text[text.index('const GROUNDS'):text.index('];', text.index('const GROUNDS'))], re.M)
+    assert words[:15] == [girths.GROUNDS[n] for n in range(1, 16)]
 
 
 def test_any_order():
