@@ -1,4 +1,5 @@
 """The Python module of bindings/python: its calls, its refusals, and what it checks before a pointer is passed."""
+import doctest
 import os
 import pathlib
 import random
@@ -68,6 +69,12 @@ def report_by_calls(file):
     except girths.Refused as e:
         return f'refused {e.number}\n'
     return HEAD + ''.join(record_line(table, g, key) for key in keys_of(table, g))
+
+
+def test_example():
+    os.chdir(ROOT)
+    failed, tried = doctest.testmod(girths)
+    assert failed == 0 and tried >= 6
 
 
 def test_samples():

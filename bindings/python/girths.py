@@ -1,12 +1,16 @@
 """The calls of the proved library for reproducible grouped summation, on bytes.
 
-    import girths
-
-    table, work = bytearray(64 * 64), bytearray(64 * 64)
-    columns = girths.read(open('samples/two-sections.patch', 'rb').read())
-    g = girths.add(table, 0, columns.keys, columns.values, work)
-    girths.sum(table, g, 1)         # 1.5
-    girths.line(table, g, 1)        # Line(section=1, rows=2, sum=1.5, figure=150)
+    >>> import girths, pathlib
+    >>> columns = girths.read(pathlib.Path('samples/two-sections.patch').read_bytes())
+    >>> table = bytearray(64 * 64)
+    >>> g = girths.add(table, 0, columns.keys, columns.values)
+    >>> girths.sum(table, g, 1), girths.figure(table, g, 1)
+    (1.5, 150)
+    >>> girths.line(table, g, 2)
+    Line(section=2, rows=1, sum=0.125, figure=13)
+    >>> girths.sum(table, g, 5)
+    Traceback (most recent call last):
+    girths.Refused: refused 13: the section has no row
 
 A table is a writable buffer, 64 bytes a section, with a group count g that the caller holds; it starts at 0. What a table holds depends on the
 multiset of its rows alone. A call that is refused raises Refused and changes no byte of a table. docs/FORMATS.md has the bytes, docs/RULES.md
