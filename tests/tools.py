@@ -26,9 +26,9 @@ def fails(status, words, tool, *args, also='', **more):
     assert said.splitlines()[-1].startswith(f'{tool}: ') and words in said and also in said, (tool, args, said)
 
 
-def closed(tool, *args, descriptor, words):
+def closed(tool, *args, descriptor, words, status=1):
     """A tool whose standard input or output is closed."""
-    fails(1, words, tool, *args, preexec_fn=lambda: os.close(descriptor))
+    fails(status, words, tool, *args, preexec_fn=lambda: os.close(descriptor))
 
 
 # ---- mkpatch
@@ -81,10 +81,10 @@ def test_mkpatch_refuses():
 
 
 def test_full_device():
-    for args, words in ((['mkpatch'], 'mkpatch: '), (['plot', 'negative.report'], 'plot: ')):
+    for status, *args in ((1, 'mkpatch'), (1, 'plot', 'negative.report'), (2, 'compare', 'negative.report', 'negative.report')):
         with open('/dev/full', 'wb') as full:
             done = subprocess.run([sys.executable, ROOT / 'tools' / args[0], *args[1:]], cwd=SAMPLES, stdin=subprocess.DEVNULL, stdout=full, stderr=subprocess.PIPE)
-        assert done.returncode == 1 and done.stderr.decode() == words + 'standard output: No space left on device\n', done.stderr
+        assert done.returncode == status and done.stderr.decode() == args[0] + ': standard output: No space left on device\n', done.stderr
 
 
 # ---- compare
@@ -154,6 +154,9 @@ def test_bad_reports():
     fails(1, 'none: No such file', 'plot', 'none')
     fails(2, 'required', 'plot')
     fails(2, 'six reports', 'plot', *7 * ['negative.report'])
+    closed('plot', 'negative.report', descriptor=1, words='standard output is closed')
+    closed('compare', 'negative.report', '-', descriptor=0, words='standard input is closed', status=2)
+    closed('compare', 'negative.report', 'negative.report', descriptor=1, words='standard output is closed', status=2)
     assert run('compare', '-', 'negative.report', data=(SAMPLES / 'negative.report').read_bytes())[0] == 0
 
 

@@ -1,4 +1,5 @@
 """Reports of `girths` read back, for the tools beside this file. Fields are found by the names of the head line."""
+import os
 import re
 import struct
 import sys
@@ -89,6 +90,18 @@ def load(name):
         return parse(shown, data.decode('ascii'))
     except UnicodeDecodeError:
         raise Bad(f'{shown} is not a report: it is not text') from None
+
+
+def write(text):
+    """Writes a text to standard output, whole or with a reason."""
+    if sys.stdout is None:
+        raise Bad('standard output is closed')
+    try:
+        sys.stdout.buffer.write(text.encode())
+        sys.stdout.buffer.flush()
+    except OSError as e:
+        os.dup2(os.open(os.devnull, os.O_WRONLY), sys.stdout.fileno())  # nothing is left to flush at the end
+        raise Bad(f'standard output: {e.strerror}') from None
 
 
 # ---- words and numbers

@@ -44,6 +44,8 @@
 
 use std::fmt;
 
+// Safety of the calls below: each passes the pointer and the length of one slice, which is never null and holds so many bytes; a slice that is
+// written to is borrowed alone, so that it overlaps no other; the library is proved to stay within the lengths.
 extern "C" {
     fn girth_read(file: *const u8, file_len: usize, keys_at: *mut u64, values_at: *mut u64) -> i64;
     fn girth_add(
