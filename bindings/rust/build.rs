@@ -1,5 +1,6 @@
 //! Links the archive of the proved library. GIRTHS_ARCHIVE names it; otherwise it is target/staticlib/libexports.a of the repository that this
 //! crate lies in, and where there is none yet, `rt` proves and builds it.
+use std::ffi::OsStr;
 use std::path::{Path, PathBuf};
 use std::process::{Command, Stdio};
 use std::time::SystemTime;
@@ -63,7 +64,7 @@ fn main() {
     let Ok(archive) = archive.canonicalize() else {
         stop(&format!("GIRTHS_ARCHIVE names {}, which is not there", archive.display()));
     };
-    if archive.file_name().is_none_or(|n| n != "libexports.a") {
+    if archive.file_name() != Some(OsStr::new("libexports.a")) {
         stop(&format!("GIRTHS_ARCHIVE names {}: the file's name has to be libexports.a", archive.display()));
     }
     println!("cargo:rerun-if-changed={}", archive.display());
