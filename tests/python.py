@@ -151,6 +151,9 @@ def test_checks_of_arguments():
     raises(ValueError, girths.add, t, 0, b'', b'', t)
     raises(ValueError, girths.add, t, 0, memoryview(t)[:4], bytes(8))
     raises(ValueError, girths.add, t, 0, bytes(4), memoryview(t)[120:])
+    work = bytearray(128)
+    raises(ValueError, girths.add, t, 0, memoryview(work)[:4], bytes(8), work)
+    raises(ValueError, girths.add, t, 0, bytes(4), memoryview(work)[100:108], work)
     whole = bytearray(256)
     halves = memoryview(whole)[:128], memoryview(whole)[128:]
     assert girths.merge(halves[0], 0, halves[1], 0) == 0

@@ -136,7 +136,7 @@ BAD = {
     'no line feed': 'section rows bits hundredths', 'empty': '', 'another head': 'section rows bits\n', 'a missing field': HEAD + '1 2 3FF8000000000000\n',
     'one field more': HEAD + '1 2 3FF8000000000000 150 1\n', 'two spaces': HEAD + '1  2 3FF8000000000000 150\n', 'small digits': HEAD + '1 2 3ff8000000000000 150\n',
     'an infinity': HEAD + '1 2 7FF0000000000000 150\n', 'no rising keys': HEAD + '2 1 0000000000000000 0\n1 1 0000000000000000 0\n',
-    'words after a refusal': HEAD + '1 2 refused 14 1\n', 'a refusal of nothing': HEAD + '1 2 refused\n', 'no rows': HEAD + '1 refused 14\n',
+    'a section twice': HEAD + 2 * '1 1 0000000000000000 0\n', 'words after a refusal': HEAD + '1 2 refused 14 1\n', 'a refusal of nothing': HEAD + '1 2 refused\n', 'no rows': HEAD + '1 refused 14\n',
     'a refusal and more': 'refused 3\n' + HEAD,
 }
 
