@@ -78,7 +78,7 @@ fn columns(rows: &[(u32, u64)]) -> (Vec<u8>, Vec<u8>) {
 fn of_values(rows: &[u64]) -> (Vec<u8>, u64) {
     let mut t = vec![0; 64];
     let (k, v) = columns(&rows.iter().map(|&b| (7, b)).collect::<Vec<_>>());
-    let g = girths::add(&mut t, 0, &k, &v, &mut [0; 64]).unwrap();
+    let g = calls::add(&mut t, 0, &k, &v, &mut [0; 64]).unwrap();
     (t, g)
 }
 
@@ -86,7 +86,7 @@ fn of_values(rows: &[u64]) -> (Vec<u8>, u64) {
 fn add_both(table: &mut Vec<u8>, g: u64, keys: &[u8], values: &[u8], work: &mut [u8]) -> Result<u64, u32> {
     let expected = model::add(table, g, keys, values, work.len());
     let before = table.clone();
-    let got = girths::add(table, g, keys, values, work);
+    let got = calls::add(table, g, keys, values, work);
     assert!(work.iter().all(|&x| x == 0), "the work buffer holds zeros");
     match &expected {
         Ok((n, bytes)) => assert!(got == Ok(*n) && table == bytes, "{got:?}, expected {n}"),
@@ -98,7 +98,7 @@ fn add_both(table: &mut Vec<u8>, g: u64, keys: &[u8], values: &[u8], work: &mut 
 fn merge_both(first: &mut Vec<u8>, g1: u64, second: &[u8], g2: u64) -> Result<u64, u32> {
     let expected = model::merge(first, g1, second, g2);
     let before = first.clone();
-    let got = girths::merge(first, g1, second, g2);
+    let got = calls::merge(first, g1, second, g2);
     match &expected {
         Ok((n, bytes)) => assert!(got == Ok(*n) && first == bytes, "{got:?}, expected {n}"),
         Err(e) => assert!(got == Err(*e) && *first == before, "{got:?}, expected refusal {e}"),
@@ -110,10 +110,10 @@ fn finish_both(table: &[u8], g: u64, key: u32) -> Result<i64, u32> {
     let s = model::find(table, g, key);
     let sum = s.clone().and_then(|s| s.sum());
     let figure = s.clone().and_then(|s| s.figure());
-    let line = s.and_then(|s| Ok(girths::Line { count: s.count, bits: s.sum()?, figure: s.figure()? }));
-    assert_eq!(girths::sum(table, g, key), sum);
-    assert_eq!(girths::figure(table, g, key), figure);
-    assert_eq!(girths::line(table, g, key), line);
+    let line = s.and_then(|s| Ok(calls::Line { count: s.count, bits: s.sum()?, figure: s.figure()? }));
+    assert_eq!(calls::sum(table, g, key), sum);
+    assert_eq!(calls::figure(table, g, key), figure);
+    assert_eq!(calls::line(table, g, key), line);
     figure
 }
 
@@ -130,7 +130,7 @@ fn file(notes: &[u8], keys: &[u8], between: &[u8], values: &[u8], after: &[u8], 
 }
 
 fn read_both(file: &[u8]) -> Result<usize, u32> {
-    let got = girths::read(file);
+    let got = calls::read(file);
     match model::read(file) {
         Ok((n, k, v)) => {
             let c = got.unwrap();
@@ -165,7 +165,7 @@ fn bench_book() {
     let sum = |rows: &[u64]| {
         let (t, g) = of_values(rows);
         finish_both(&t, g, 7).ok();
-        girths::sum(&t, g, 7)
+        calls::sum(&t, g, 7)
     };
     assert_eq!(sum(&[0, 1 << 63]), Ok(0));
     let (a, b) = (0x3CB0000000000000, 0x3FEFFFFFFFFFFFFF);
@@ -346,7 +346,7 @@ fn merges() {
     assert!([0, 7, 11, 12].iter().all(|&i| seen[i] > 0), "{seen:?}");
 }
 
-/// One heap of rows in many orders, splits and merges.
+/// One multiset of rows in many orders, splits and merges.
 #[test]
 fn same_bytes() {
     let mut r = Random(4);
@@ -365,14 +365,14 @@ fn same_bytes() {
                 let (k, v) = columns(now);
                 let which = r.below(tables.len() as u64) as usize;
                 let (t, g) = &mut tables[which];
-                *g = girths::add(t, *g, &k, &v, &mut vec![1; 64 * 24]).unwrap();
+                *g = calls::add(t, *g, &k, &v, &mut vec![1; 64 * 24]).unwrap();
             }
             while tables.len() > 1 {
                 let from = r.below(tables.len() as u64) as usize;
                 let (second, g2) = tables.swap_remove(from);
                 let into = r.below(tables.len() as u64) as usize;
                 let (first, g1) = &mut tables[into];
-                *g1 = girths::merge(first, *g1, &second, g2).unwrap();
+                *g1 = calls::merge(first, *g1, &second, g2).unwrap();
             }
             let (t, g) = &tables[0];
             let used = t[..64 * *g as usize].to_vec();
@@ -400,7 +400,7 @@ fn report_both(file: &[u8], room: usize) -> String {
     let expected = model::report(file);
     let before: Vec<u8> = (0..room).map(|i| i as u8).collect();
     let mut out = before.clone();
-    match girths::report(file, &mut out) {
+    match calls::report(file, &mut out) {
         Ok(n) => {
             assert_eq!(String::from_utf8_lossy(&out[..n]), expected);
             assert_eq!(out[n..], before[n..]);

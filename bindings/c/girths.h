@@ -1,4 +1,5 @@
-/* The calls of the proved library, for C. Build the archive with `rt staticlib exports`, and link target/staticlib/libexports.a.
+/* The calls of the proved library, for C. Build the archive with `rt staticlib exports`, and link target/staticlib/libexports.a; example.c
+ * beside this file has the command. docs/FORMATS.md has the patch file, the table and the report byte by byte, docs/RULES.md the refusals.
  *
  * A slice is a pointer and a length in bytes. The pointer is not null, even for length 0, and no lent buffer overlaps another that is
  * lent for writing. A call returns a number of at least 0, or minus the refusal's number; what it writes out is 0 when it is refused.

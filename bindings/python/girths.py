@@ -1,0 +1,279 @@
+"""The calls of the proved library for reproducible grouped summation, on bytes.
+
+    >>> import girths, pathlib
+    >>> columns = girths.read(pathlib.Path('samples/two-sections.patch').read_bytes())
+    >>> table = bytearray(64 * 64)
+    >>> g = girths.add(table, 0, columns.keys, columns.values)
+    >>> girths.sum(table, g, 1), girths.figure(table, g, 1)
+    (1.5, 150)
+    >>> girths.line(table, g, 2)
+    Line(section=2, rows=1, sum=0.125, figure=13)
+    >>> girths.sum(table, g, 5)
+    Traceback (most recent call last):
+    girths.Refused: refused 13: the section has no row
+
+A table is a writable buffer, 64 bytes a section, with a group count g that the caller holds; it starts at 0. What a table holds depends on the
+multiset of its rows alone. A call that is refused raises Refused and changes no byte of a table. docs/FORMATS.md has the bytes, docs/RULES.md
+the rules and the refusals.
+
+The library is target/staticlib/libexports.a of the repository that this file lies in, linked to target/girths.so by `cc` when it is first
+used; where there is no archive yet, `rt` proves and builds it. GIRTHS_ARCHIVE names another archive. NotBuilt says what is missing.
+"""
+import ctypes
+import os
+import pathlib
+import shutil
+import struct
+import subprocess
+import tempfile
+from typing import NamedTuple
+
+__all__ = ['Columns', 'Line', 'NotBuilt', 'Refused', 'add', 'bits', 'figure', 'line', 'merge', 'read', 'report', 'sum']
+
+ROOT = pathlib.Path(__file__).resolve().parents[2]
+LONGEST_REPORT = 4096
+
+GROUNDS = {
+    1: 'the file is longer than 65,536 bytes',
+    2: 'the file is shorter than 16 bytes',
+    3: 'the last four bytes are not the mark',
+    4: 'the key column does not lie between the front of the file and the trailer',
+    5: 'the value column does not lie between the front of the file and the trailer',
+    6: 'the two columns share a byte',
+    7: 'the table is not sound',
+    8: 'the work buffer is shorter than the table',
+    9: 'the lengths of the two columns fit no row count',
+    10: 'a row is infinite or not a number',
+    11: 'a section would have more than 4,294,967,295 rows',
+    12: 'the table has no room for all keys',
+    13: 'the section has no row',
+    14: 'the sum is too large for a double',
+    15: 'the mill figure does not fit',
+}
+
+
+class Refused(Exception):
+    """A refused call; number is 1 to 15, as docs/RULES.md lists it."""
+
+    def __init__(self, number):
+        super().__init__(f'refused {number}: {GROUNDS[number]}')
+        self.number = number
+
+
+class NotBuilt(Exception):
+    """The library is missing, and could not be built."""
+
+
+class Columns(NamedTuple):
+    """The two columns of a patch file, as parts of it."""
+    rows: int
+    keys: memoryview
+    values: memoryview
+
+
+class Line(NamedTuple):
+    """A finished section."""
+    section: int
+    rows: int
+    sum: float
+    figure: int
+
+
+# ---- the library
+
+def _run(command, what):
+    """Runs a command in the repository, and tells by NotBuilt what failed."""
+    if shutil.which(command[0]) is None:
+        raise NotBuilt(f'{what}: {command[0]} is not on the path')
+    done = subprocess.run(command, cwd=ROOT, stdin=subprocess.DEVNULL, stdout=subprocess.PIPE, stderr=subprocess.STDOUT, text=True)
+    if done.returncode != 0:
+        raise NotBuilt(f'{what}: {" ".join(map(str, command))} failed:\n' + '\n'.join(done.stdout.splitlines()[-20:]))
+
+
+def _archive():
+    named = os.environ.get('GIRTHS_ARCHIVE')
+    archive = pathlib.Path(named).absolute() if named else ROOT / 'target' / 'staticlib' / 'libexports.a'
+    if named and not archive.is_file():
+        raise NotBuilt(f'GIRTHS_ARCHIVE names {archive}, which is not there')
+    if not archive.is_file():
+        if not (ROOT / 'crates.txt').is_file():
+            raise NotBuilt(f'{archive} is missing, and {ROOT} is not the repository that it is built from: name an archive in GIRTHS_ARCHIVE')
+        _run(['rt', 'staticlib', 'exports'], f'{archive} is missing and cannot be built')
+    return archive
+
+
+def _link(archive, shared):
+    """Links the archive to a shared library, which appears whole or not at all."""
+    shared.parent.mkdir(parents=True, exist_ok=True)
+    with tempfile.TemporaryDirectory(dir=shared.parent) as folder:
+        made = pathlib.Path(folder) / shared.name
+        _run(['cc', '-shared', '-o', made, '-Wl,--whole-archive', archive, '-Wl,--no-whole-archive', '-Wl,-z,defs'], f'{shared} cannot be linked')
+        os.replace(made, shared)
+
+
+_BYTES, _LENGTH, _NUMBER = ctypes.c_void_p, ctypes.c_size_t, ctypes.c_uint64
+_OUT, _SIGNED_OUT = ctypes.POINTER(ctypes.c_uint64), ctypes.POINTER(ctypes.c_int64)
+_TABLE = [_BYTES, _LENGTH, _NUMBER]
+_TYPES = {
+    'girth_read': [_BYTES, _LENGTH, _OUT, _OUT],
+    'girth_add': _TABLE + 3 * [_BYTES, _LENGTH],
+    'girth_merge': _TABLE + _TABLE,
+    'girth_sum': _TABLE + [ctypes.c_uint32, _OUT],
+    'girth_figure': _TABLE + [ctypes.c_uint32, _SIGNED_OUT],
+    'girth_line': _TABLE + [ctypes.c_uint32, _OUT, _OUT, _SIGNED_OUT],
+    'girth_report': 2 * [_BYTES, _LENGTH],
+}
+_loaded = None
+
+
+def _library():
+    global _loaded
+    if _loaded is None:
+        archive = _archive()
+        shared = (archive.parent if os.environ.get('GIRTHS_ARCHIVE') else ROOT / 'target') / 'girths.so'
+        if not shared.is_file() or shared.stat().st_mtime_ns < archive.stat().st_mtime_ns:
+            _link(archive, shared)
+        found = ctypes.CDLL(str(shared))
+        for name, types in _TYPES.items():
+            call = getattr(found, name)
+            call.argtypes, call.restype = types, ctypes.c_int64
+        _loaded = found
+    return _loaded
+
+
+# ---- what is lent
+
+class _Lent:
+    """A buffer with its address and length in bytes; it is held as long as this object lives."""
+
+    def __init__(self, what, data, writable=False):
+        try:
+            view = memoryview(data)
+        except TypeError:
+            raise TypeError(f'{what} is bytes, a bytearray or a memoryview, not {type(data).__name__}') from None
+        if not view.contiguous or view.itemsize != 1:
+            raise TypeError(f'{what} is a contiguous buffer of bytes')
+        if writable and view.readonly:
+            raise TypeError(f'{what} is written to: it has to be a bytearray or a writable memoryview')
+        self.what, self.length = what, view.nbytes
+        # a call takes no null pointer, and an empty buffer may have no address
+        if self.length == 0:
+            self.held = ctypes.create_string_buffer(1)
+        elif view.readonly:
+            self.held = ctypes.create_string_buffer(bytes(view), self.length)
+        else:
+            self.held = (ctypes.c_ubyte * self.length).from_buffer(view.cast('B'))
+        self.address = ctypes.addressof(self.held)
+
+    def shares_a_byte(self, other):
+        ends = self.address + self.length, other.address + other.length
+        return self.length > 0 and other.length > 0 and self.address < ends[1] and other.address < ends[0]
+
+    @property
+    def words(self):
+        return self.address, self.length
+
+
+def _apart(written, *others):
+    for other in others:
+        if written.shares_a_byte(other):
+            raise ValueError(f'{written.what} and {other.what} share memory')
+
+
+def _whole(what, n, width):
+    if not isinstance(n, int) or isinstance(n, bool):
+        raise TypeError(f'{what} is a whole number, not {type(n).__name__}')
+    if not 0 <= n < 2 ** width:
+        raise ValueError(f'{what} lies between 0 and {2 ** width - 1}')
+    return n
+
+
+def _answer(n):
+    if n < 0 and -n in GROUNDS:
+        raise Refused(-n)
+    if n < 0:
+        raise RuntimeError(f'the library gave the answer {n}, which has no meaning')
+    return n
+
+
+def _groups(n, table):
+    if _answer(n) > table.length // 64:
+        raise RuntimeError('the library gave more groups than the table has room for')
+    return n
+
+
+def _double(n):
+    return struct.unpack('<d', struct.pack('<Q', n))[0]
+
+
+def bits(x):
+    """The 64 bits of a double as 16 hexadecimal digits, as the report shows them."""
+    return f'{struct.unpack("<Q", struct.pack("<d", x))[0]:016X}'
+
+
+# ---- the calls
+
+def read(file):
+    """The columns of a patch file, or refusals 1 to 6."""
+    lent = _Lent('a file', file)
+    at = ctypes.c_uint64(), ctypes.c_uint64()
+    n = _answer(_library().girth_read(*lent.words, *map(ctypes.byref, at)))
+    keys, values = at[0].value, at[1].value
+    if keys + 4 * n > lent.length or values + 8 * n > lent.length:
+        raise RuntimeError('the library gave a column that does not lie within the file')
+    view = memoryview(file).cast('B')
+    return Columns(n, view[keys:keys + 4 * n], view[values:values + 8 * n])
+
+
+def add(table, g, keys, values, work=None):
+    """Adds the rows of two columns to a table of g records: the new group count, or refusals 7 to 12.
+
+    The work buffer is at least as long as the table and holds only zeros afterwards; without one, one is made."""
+    into = _Lent('a table', table, writable=True)
+    space = _Lent('a work buffer', bytearray(into.length) if work is None else work, writable=True)
+    columns = _Lent('a key column', keys), _Lent('a value column', values)
+    _apart(into, space, *columns)
+    _apart(space, *columns)
+    g = _whole('a group count', g, 64)
+    return _groups(_library().girth_add(*into.words, g, *columns[0].words, *columns[1].words, *space.words), into)
+
+
+def merge(first, g1, second, g2):
+    """Merges the second table into the first: the first's new group count, or refusals 7, 11 and 12."""
+    into, other = _Lent('the first table', first, writable=True), _Lent('the second table', second)
+    _apart(into, other)
+    g1, g2 = _whole('a group count', g1, 64), _whole('a group count', g2, 64)
+    return _groups(_library().girth_merge(*into.words, g1, *other.words, g2), into)
+
+
+def sum(table, g, key):
+    """A section's sum as a float, or refusals 7, 13 and 14."""
+    lent, out = _Lent('a table', table), ctypes.c_uint64()
+    g, key = _whole('a group count', g, 64), _whole('a section', key, 32)
+    _answer(_library().girth_sum(*lent.words, g, key, ctypes.byref(out)))
+    return _double(out.value)
+
+
+def figure(table, g, key):
+    """A section's mill figure, or refusals 7 and 13 to 15."""
+    lent, out = _Lent('a table', table), ctypes.c_int64()
+    g, key = _whole('a group count', g, 64), _whole('a section', key, 32)
+    _answer(_library().girth_figure(*lent.words, g, key, ctypes.byref(out)))
+    return out.value
+
+
+def line(table, g, key):
+    """A section's finished line, or refusals 7 and 13 to 15."""
+    lent, outs = _Lent('a table', table), (ctypes.c_uint64(), ctypes.c_uint64(), ctypes.c_int64())
+    g, key = _whole('a group count', g, 64), _whole('a section', key, 32)
+    _answer(_library().girth_line(*lent.words, g, key, *map(ctypes.byref, outs)))
+    return Line(key, outs[0].value, _double(outs[1].value), outs[2].value)
+
+
+def report(file):
+    """The report of a patch file, as bytes. A refused file has a report too: `refused` and the number."""
+    lent, out = _Lent('a file', file), _Lent('a text', bytearray(LONGEST_REPORT), writable=True)
+    n = _library().girth_report(*lent.words, *out.words)
+    if not 0 <= n <= out.length:
+        raise RuntimeError(f'the library gave a text of {n} bytes')
+    return bytes(out.held[:n])

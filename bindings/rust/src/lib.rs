@@ -1,0 +1,243 @@
+//! Safe calls of the proved library for reproducible grouped summation.
+//!
+//! Rows of (section, double) are added to a table of 64-byte records; a table's bytes and a section's sum depend on the multiset of rows
+//! alone, whatever their order, their splits and their merges. docs/FORMATS.md has the bytes, docs/RULES.md the rules and the refusals.
+//!
+//! The caller holds a table as a buffer and its group count `g`, which starts at 0. Each call is total: it refuses what is wrong with a
+//! [`Refusal`], and a refused call changes no byte of a table.
+//!
+//! ```
+//! // keys 1, 2, 1 and values 1, 0.125, 0.5, then the trailer: 3 rows, distances 52 and 40, the mark
+//! let mut file = Vec::new();
+//! for key in [1u32, 2, 1] {
+//!     file.extend(key.to_le_bytes());
+//! }
+//! for value in [1f64, 0.125, 0.5] {
+//!     file.extend(value.to_le_bytes());
+//! }
+//! for field in [3u32, 52, 40] {
+//!     file.extend(field.to_le_bytes());
+//! }
+//! file.extend(b"LAST");
+//!
+//! let columns = girths::read(&file)?;
+//! assert_eq!(columns.rows, 3);
+//!
+//! let mut table = [0u8; 64 * 64];
+//! let mut work = [0u8; 64 * 64];
+//! let g = girths::add(&mut table, 0, columns.keys, columns.values, &mut work)?;
+//! assert_eq!(g, 2);
+//!
+//! let line = girths::line(&table, g, 1)?;
+//! assert_eq!((line.count, f64::from_bits(line.bits), line.figure), (2, 1.5, 150));
+//! assert_eq!(girths::sum(&table, g, 5).unwrap_err().number(), 13);
+//!
+//! // the same rows as two patches on two tables, merged
+//! let mut other = [0u8; 64 * 64];
+//! let h = girths::add(&mut other, 0, &columns.keys[4..], &columns.values[8..], &mut work)?;
+//! let mut first = [0u8; 64 * 64];
+//! let f = girths::add(&mut first, 0, &columns.keys[..4], &columns.values[..8], &mut work)?;
+//! assert_eq!(girths::merge(&mut first, f, &other, h)?, g);
+//! assert_eq!(first, table);
+//! # Ok::<(), girths::Refusal>(())
+//! ```
+
+use std::fmt;
+
+// Safety of the calls below: each passes the pointer and the length of one slice, which is never null and holds so many bytes; a slice that is
+// written to is borrowed alone, so that it overlaps no other; the library is proved to stay within the lengths.
+extern "C" {
+    fn girth_read(file: *const u8, file_len: usize, keys_at: *mut u64, values_at: *mut u64) -> i64;
+    fn girth_add(
+        table: *mut u8, table_len: usize, g: u64, keys: *const u8, keys_len: usize, values: *const u8, values_len: usize,
+        work: *mut u8, work_len: usize,
+    ) -> i64;
+    fn girth_merge(first: *mut u8, first_len: usize, g1: u64, second: *const u8, second_len: usize, g2: u64) -> i64;
+    fn girth_sum(table: *const u8, table_len: usize, g: u64, key: u32, bits: *mut u64) -> i64;
+    fn girth_figure(table: *const u8, table_len: usize, g: u64, key: u32, figure: *mut i64) -> i64;
+    fn girth_line(
+        table: *const u8, table_len: usize, g: u64, key: u32, count: *mut u64, bits: *mut u64, figure: *mut i64,
+    ) -> i64;
+    fn girth_report(file: *const u8, file_len: usize, out: *mut u8, out_len: usize) -> i64;
+}
+
+/// Why a call was refused, by its number of 1 to 15; 16 where a lent buffer is too short for a report.
+#[derive(Debug, PartialEq, Eq, Clone, Copy, Hash)]
+pub struct Refusal(u32);
+
+const GROUNDS: [&str; 16] = [
+    "the file is longer than 65,536 bytes",
+    "the file is shorter than 16 bytes",
+    "the last four bytes are not the mark",
+    "the key column does not lie between the front of the file and the trailer",
+    "the value column does not lie between the front of the file and the trailer",
+    "the two columns share a byte",
+    "the table is not sound",
+    "the work buffer is shorter than the table",
+    "the lengths of the two columns fit no row count",
+    "a row is infinite or not a number",
+    "a section would have more than 4,294,967,295 rows",
+    "the table has no room for all keys",
+    "the section has no row",
+    "the sum is too large for a double",
+    "the mill figure does not fit",
+    "the buffer is too short for the report",
+];
+
+impl Refusal {
+    /// The number, as docs/RULES.md lists it.
+    pub fn number(self) -> u32 {
+        self.0
+    }
+}
+
+impl fmt::Display for Refusal {
+    fn fmt(&self, f: &mut fmt::Formatter<'_>) -> fmt::Result {
+        write!(f, "refused {}: {}", self.0, GROUNDS[self.0 as usize - 1])
+    }
+}
+
+impl std::error::Error for Refusal {}
+
+/// The two columns of a patch file, as parts of it.
+#[derive(Debug, PartialEq, Clone, Copy)]
+pub struct Columns<'a> {
+    /// How many rows the file has.
+    pub rows: usize,
+    /// The key column: a 32-bit section number for each row.
+    pub keys: &'a [u8],
+    /// The value column: a double for each row.
+    pub values: &'a [u8],
+}
+
+/// A finished section.
+#[derive(Debug, PartialEq, Clone, Copy)]
+pub struct Line {
+    /// How many rows the section has.
+    pub count: u64,
+    /// The 64 bits of its sum.
+    pub bits: u64,
+    /// Its mill figure.
+    pub figure: i64,
+}
+
+fn answer(r: i64) -> Result<u64, Refusal> {
+    assert!(r >= -(GROUNDS.len() as i64), "the library gave the answer {r}, which has no meaning");
+    if r < 0 { Err(Refusal(r.unsigned_abs() as u32)) } else { Ok(r as u64) }
+}
+
+/// The column of so many bytes from a place on, which lies within the file.
+fn column(file: &[u8], at: u64, bytes: usize) -> &[u8] {
+    let start = usize::try_from(at).ok();
+    let part = start.and_then(|s| file.get(s..s.checked_add(bytes)?));
+    part.expect("the library gave a column that does not lie within the file")
+}
+
+/// The group count of a table after an accepted call, which its buffer has room for.
+fn groups(r: i64, room: usize) -> Result<u64, Refusal> {
+    let g = answer(r)?;
+    assert!(g <= room as u64 / 64, "the library gave more groups than the table has room for");
+    Ok(g)
+}
+
+/// Reads a patch file: its columns, or refusals 1 to 6.
+pub fn read(file: &[u8]) -> Result<Columns<'_>, Refusal> {
+    let (mut k, mut v) = (u64::MAX, u64::MAX);
+    let n = answer(unsafe { girth_read(file.as_ptr(), file.len(), &mut k, &mut v) });
+    if n.is_err() {
+        assert_eq!((k, v), (0, 0), "a refused file has no columns");
+    }
+    let n = n? as usize;
+    assert!(n <= file.len() / 12, "the library gave more rows than the file has");
+    Ok(Columns { rows: n, keys: column(file, k, 4 * n), values: column(file, v, 8 * n) })
+}
+
+/// Adds rows to a table of g records, and gives its new group count, or refusals 7 to 12. The work buffer is at least as long as the table, and
+/// holds only zeros afterwards.
+pub fn add(table: &mut [u8], g: u64, keys: &[u8], values: &[u8], work: &mut [u8]) -> Result<u64, Refusal> {
+    let r = unsafe {
+        girth_add(
+            table.as_mut_ptr(), table.len(), g, keys.as_ptr(), keys.len(), values.as_ptr(), values.len(), work.as_mut_ptr(), work.len(),
+        )
+    };
+    groups(r, table.len())
+}
+
+/// Merges the second table into the first, and gives the first's new group count, or refusals 7, 11 and 12.
+pub fn merge(first: &mut [u8], g1: u64, second: &[u8], g2: u64) -> Result<u64, Refusal> {
+    let r = unsafe { girth_merge(first.as_mut_ptr(), first.len(), g1, second.as_ptr(), second.len(), g2) };
+    groups(r, first.len())
+}
+
+/// The 64 bits of a section's sum, or refusals 7, 13 and 14.
+pub fn sum(table: &[u8], g: u64, key: u32) -> Result<u64, Refusal> {
+    let mut bits = u64::MAX;
+    let r = answer(unsafe { girth_sum(table.as_ptr(), table.len(), g, key, &mut bits) });
+    settled(r, bits, bits == 0)
+}
+
+/// A section's mill figure, or refusals 7 and 13 to 15.
+pub fn figure(table: &[u8], g: u64, key: u32) -> Result<i64, Refusal> {
+    let mut z = i64::MAX;
+    let r = answer(unsafe { girth_figure(table.as_ptr(), table.len(), g, key, &mut z) });
+    settled(r, z, z == 0)
+}
+
+/// A section's finished line, or refusals 7 and 13 to 15.
+pub fn line(table: &[u8], g: u64, key: u32) -> Result<Line, Refusal> {
+    let mut l = Line { count: u64::MAX, bits: u64::MAX, figure: i64::MAX };
+    let r = answer(unsafe {
+        girth_line(table.as_ptr(), table.len(), g, key, &mut l.count, &mut l.bits, &mut l.figure)
+    });
+    settled(r, l, l == Line { count: 0, bits: 0, figure: 0 })
+}
+
+/// Writes the report of a patch file to the front of a buffer, and gives its length, 4,096 bytes at most. Refusal 16 leaves the buffer untouched.
+pub fn report(file: &[u8], out: &mut [u8]) -> Result<usize, Refusal> {
+    let n = answer(unsafe { girth_report(file.as_ptr(), file.len(), out.as_mut_ptr(), out.len()) })?;
+    assert!(n <= out.len() as u64, "the library gave a longer text than the buffer holds");
+    Ok(n as usize)
+}
+
+/// The value written out, after a look that a refused call wrote zeros.
+fn settled<T>(r: Result<u64, Refusal>, value: T, zero: bool) -> Result<T, Refusal> {
+    match r {
+        Ok(n) => {
+            assert_eq!(n, 0);
+            Ok(value)
+        }
+        Err(e) => {
+            assert!(zero, "a refused call writes zeros out");
+            Err(e)
+        }
+    }
+}
+
+#[cfg(test)]
+mod tests {
+    #[test]
+    fn a_refusal_tells_its_number_and_its_ground() {
+        let e = super::read(&[]).unwrap_err();
+        assert_eq!(e.number(), 2);
+        assert_eq!(e.to_string(), "refused 2: the file is shorter than 16 bytes");
+        assert_eq!(super::report(&[], &mut [0; 3]).unwrap_err().to_string(), "refused 16: the buffer is too short for the report");
+    }
+
+    #[test]
+    #[should_panic(expected = "does not lie within the file")]
+    fn a_column_beyond_the_file_is_never_sliced() {
+        super::column(&[0; 16], 8, 9);
+    }
+
+    #[test]
+    #[should_panic(expected = "does not lie within the file")]
+    fn a_column_whose_end_is_past_every_number_is_never_sliced() {
+        super::column(&[0; 16], u64::MAX, 4);
+    }
+
+    #[test]
+    #[should_panic(expected = "more groups than the table has room for")]
+    fn a_group_count_beyond_the_buffer_is_never_given() {
+        let _ = super::groups(2, 127);
+    }
+}

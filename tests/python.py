@@ -1,0 +1,204 @@
+"""The Python module of bindings/python: its calls, its refusals, and what it checks before a pointer is passed."""
+import doctest
+import os
+import pathlib
+import random
+import re
+import struct
+import subprocess
+import sys
+import tempfile
+
+ROOT = pathlib.Path(__file__).resolve().parent.parent
+MODULE = ROOT / 'bindings' / 'python'
+sys.dont_write_bytecode = True
+sys.path.insert(0, str(MODULE))
+import girths  # noqa: E402
+
+HEAD = 'section rows bits hundredths\n'
+
+
+def pack(rows):
+    return struct.pack(f'<{len(rows)}I', *(k for k, _ in rows)), struct.pack(f'<{len(rows)}d', *(x for _, x in rows))
+
+
+def table_of(rows, groups=64):
+    table = bytearray(64 * groups)
+    return table, girths.add(table, 0, *pack(rows))
+
+
+def raises(kind, call, *args, **more):
+    try:
+        call(*args, **more)
+    except kind as e:
+        return e
+    raise AssertionError(f'{call.__name__}{args} raised no {kind.__name__}')
+
+
+def refused(number, call, *args):
+    e = raises(girths.Refused, call, *args)
+    assert e.number == number, f'refused {e.number}, expected {number}'
+    assert str(e).startswith(f'refused {number}: ')
+
+
+def record_line(table, g, key):
+    """A line of the report, from the calls on a table."""
+    start = f'{key} {struct.unpack_from("<I", table, 64 * keys_of(table, g).index(key) + 4)[0]} '
+    try:
+        total = girths.bits(girths.sum(table, g, key))
+    except girths.Refused as e:
+        return start + f'refused {e.number}\n'
+    try:
+        line = girths.line(table, g, key)
+    except girths.Refused as e:
+        return start + f'{total} refused {e.number}\n'
+    assert line.figure == girths.figure(table, g, key)
+    return f'{line.section} {line.rows} {girths.bits(line.sum)} {line.figure}\n'
+
+
+def keys_of(table, g):
+    return [struct.unpack_from('<I', table, 64 * i)[0] for i in range(g)]
+
+
+def report_by_calls(file):
+    try:
+        columns = girths.read(file)
+        table, work = bytearray(64 * 64), bytearray(b'\xff' * 64 * 64)
+        g = girths.add(table, 0, columns.keys, columns.values, work)
+        assert not any(work)
+    except girths.Refused as e:
+        return f'refused {e.number}\n'
+    return HEAD + ''.join(record_line(table, g, key) for key in keys_of(table, g))
+
+
+def test_example():
+    os.chdir(ROOT)
+    failed, tried = doctest.testmod(girths)
+    assert failed == 0 and tried >= 6
+
+
+def test_samples():
+    files = sorted((ROOT / 'samples').glob('*.patch'))
+    assert len(files) >= 16
+    for path in files:
+        data, expected = path.read_bytes(), path.with_suffix('.report').read_text()
+        assert girths.report(data).decode() == expected, path
+        assert report_by_calls(data) == expected, path
+        assert girths.report(memoryview(bytearray(data))).decode() == expected, path
+
+
+def test_refusals():
+    one = struct.pack('<d', 1.0)
+    key = struct.pack('<I', 1)
+    refused(1, girths.read, bytes(65537))
+    refused(2, girths.read, b'')
+    refused(7, girths.add, bytearray(), 1, b'', b'')
+    refused(8, girths.add, bytearray(64), 0, b'', b'', bytearray(63))
+    refused(9, girths.add, bytearray(64), 0, bytes(8), bytes(8))
+    refused(10, girths.add, bytearray(64), 0, key, struct.pack('<d', float('nan')))
+    full, g = table_of([(1, 1.0)])
+    full[4:8] = b'\xff' * 4
+    before = bytes(full)
+    refused(11, girths.add, full, g, key, one)
+    refused(11, girths.merge, full, g, bytes(full), g)
+    refused(12, girths.add, bytearray(64), 0, key + struct.pack('<I', 2), one + one)
+    assert full == before
+    refused(13, girths.sum, full, g, 5)
+    refused(13, girths.figure, full, 0, 1)
+    refused(13, girths.line, full, g, 5)
+    refused(14, girths.sum, *table_of([(1, 1.7976931348623157e308)] * 2), 1)
+    refused(15, girths.line, *table_of([(1, 21474836.5)]), 1)
+    refused(7, girths.merge, full, g, b'', 1)
+
+
+def test_same_words_in_rust():
+    text = (ROOT / 'bindings' / 'rust' / 'src' / 'lib.rs').read_text()
+    words = re.findall(r'^    "(.*)",$', text[text.index('const GROUNDS'):text.index('];', text.index('const GROUNDS'))], re.M)
+    assert words[:15] == [girths.GROUNDS[n] for n in range(1, 16)]
+
+
+def test_any_order():
+    r = random.Random(1)
+    for _ in range(60):
+        rows = [(r.randrange(9), r.choice((1, -1)) * r.random() * 2.0 ** r.randrange(-90, 90)) for _ in range(r.randrange(1, 60))]
+        expected, g = table_of(rows)
+        for _ in range(4):
+            r.shuffle(rows)
+            cut = r.randrange(len(rows) + 1)
+            first, g1 = table_of(rows[:cut])
+            second, g2 = table_of(rows[cut:])
+            assert girths.merge(first, g1, second, g2) == g and first == expected
+
+
+def test_checks_of_arguments():
+    t = bytearray(128)
+    raises(TypeError, girths.read, 'text')
+    raises(TypeError, girths.read, None)
+    raises(TypeError, girths.read, memoryview(bytes(32))[::2])
+    raises(TypeError, girths.read, memoryview(bytes(32)).cast('I'))
+    raises(TypeError, girths.add, bytes(64), 0, b'', b'')
+    raises(TypeError, girths.add, t, 0, b'', b'', bytes(128))
+    raises(TypeError, girths.add, t, 0.0, b'', b'')
+    raises(TypeError, girths.add, t, True, b'', b'')
+    raises(ValueError, girths.add, t, -1, b'', b'')
+    raises(ValueError, girths.add, t, 2 ** 64, b'', b'')
+    refused(7, girths.add, t, 2 ** 64 - 1, b'', b'')
+    raises(ValueError, girths.sum, t, 0, 2 ** 32)
+    raises(ValueError, girths.figure, t, 0, -1)
+    raises(TypeError, girths.line, t, 0, '1')
+    raises(TypeError, girths.merge, bytes(64), 0, b'', 0)
+    raises(ValueError, girths.merge, t, 0, t, 0)
+    raises(ValueError, girths.add, t, 0, b'', b'', t)
+    raises(ValueError, girths.add, t, 0, memoryview(t)[:4], bytes(8))
+    raises(ValueError, girths.add, t, 0, bytes(4), memoryview(t)[120:])
+    work = bytearray(128)
+    raises(ValueError, girths.add, t, 0, memoryview(work)[:4], bytes(8), work)
+    raises(ValueError, girths.add, t, 0, bytes(4), memoryview(work)[100:108], work)
+    whole = bytearray(256)
+    halves = memoryview(whole)[:128], memoryview(whole)[128:]
+    assert girths.merge(halves[0], 0, halves[1], 0) == 0
+    assert girths.add(halves[0], 0, *pack([(1, 1.0)]), halves[1]) == 1 and girths.sum(whole, 1, 1) == 1.0
+
+
+def load(root, **environment):
+    """What a fresh process says that loads a copy of the module below another root."""
+    folder = pathlib.Path(root) / 'bindings' / 'python'
+    folder.mkdir(parents=True, exist_ok=True)
+    (folder / 'girths.py').write_bytes((MODULE / 'girths.py').read_bytes())
+    code = 'import girths\ntry: print(girths.report(b""))\nexcept girths.NotBuilt as e: print("NotBuilt:", e)'
+    env = {**os.environ, 'PYTHONPATH': str(folder), 'PYTHONDONTWRITEBYTECODE': '1', **environment}
+    done = subprocess.run([sys.executable, '-c', code], env=env, capture_output=True, text=True)
+    assert done.returncode == 0, done.stderr
+    return done.stdout
+
+
+def test_what_is_missing():
+    archive = ROOT / 'target' / 'staticlib' / 'libexports.a'
+    with tempfile.TemporaryDirectory() as root:
+        said = load(root)
+        assert said.startswith('NotBuilt: ') and 'is not the repository' in said, said
+        pathlib.Path(root, 'crates.txt').write_text('')
+        said = load(root, PATH='')
+        assert 'rt is not on the path' in said, said
+        said = load(root, GIRTHS_ARCHIVE=root + '/none.a')
+        assert 'which is not there' in said, said
+        own = pathlib.Path(root, 'target', 'staticlib', 'libexports.a')
+        own.parent.mkdir(parents=True)
+        own.write_bytes(archive.read_bytes())
+        said = load(root, PATH='')
+        assert 'cc is not on the path' in said, said
+        assert load(root) == "b'refused 2\\n'\n"
+        own.write_bytes(b'no archive')
+        os.utime(own, (2 ** 32, 2 ** 32))
+        said = load(root)
+        assert 'cannot be linked' in said, said
+
+
+def main():
+    tests = [f for name, f in globals().items() if name.startswith('test_')]
+    for test in tests:
+        test()
+    print(f'python.py: {len(tests)} tests agree')
+
+
+main()

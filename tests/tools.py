@@ -1,0 +1,250 @@
+"""The tools: mkpatch, compare and plot, on good input and on bad."""
+import os
+import pathlib
+import struct
+import subprocess
+import sys
+import tempfile
+import xml.etree.ElementTree
+
+ROOT = pathlib.Path(__file__).resolve().parent.parent
+SAMPLES = ROOT / 'samples'
+HEAD = 'section rows bits hundredths\n'
+SVG = '{http://www.w3.org/2000/svg}'
+
+
+def run(tool, *args, data=b'', **more):
+    """Status, output, and what was said, of a tool that is called in the folder of the samples."""
+    done = subprocess.run([sys.executable, ROOT / 'tools' / tool, *args], input=data, cwd=SAMPLES, capture_output=True, timeout=60, **more)
+    assert b'Traceback' not in done.stderr, done.stderr.decode()
+    return done.returncode, done.stdout, done.stderr.decode()
+
+
+def fails(status, words, tool, *args, also='', **more):
+    found, out, said = run(tool, *args, **more)
+    assert (found, out) == (status, b''), (tool, args, found, out[:80])
+    assert said.splitlines()[-1].startswith(f'{tool}: ') and words in said and also in said, (tool, args, said)
+
+
+def closed(tool, *args, descriptor, words, status=1):
+    """A tool whose standard input or output is closed."""
+    fails(status, words, tool, *args, preexec_fn=lambda: os.close(descriptor))
+
+
+# ---- mkpatch
+
+def trailer(n, k, v):
+    return struct.pack('<III', n, k, v) + b'LAST'
+
+
+def test_mkpatch_files():
+    text = b'# two rows\n\n 1 1.5\n4294967295\t-2e-3\n'
+    keys, values = struct.pack('<II', 1, 4294967295), struct.pack('<dd', 1.5, -2e-3)
+    assert run('mkpatch', data=text) == (0, keys + values + trailer(2, 40, 32), '')
+    assert run('mkpatch', '--values-first', data=text) == (0, values + keys + trailer(2, 24, 40), '')
+    notes = 'müller, left'
+    assert run('mkpatch', '--notes', notes, '-', '-', data=text) == (0, notes.encode() + keys + values + trailer(2, 40, 32), '')
+    assert run('mkpatch', data=b'') == (0, trailer(0, 16, 16), '')
+    with tempfile.TemporaryDirectory() as folder:
+        source, target = pathlib.Path(folder, 'in'), pathlib.Path(folder, 'out')
+        source.write_bytes(text)
+        assert run('mkpatch', '--values-first', '--notes=x', source, target) == (0, b'', '')
+        assert target.read_bytes() == b'x' + values + keys + trailer(2, 24, 40)
+        fails(1, 'line 1', 'mkpatch', '-', target, data=b'1')
+        assert target.read_bytes()[:1] == b'x', 'a refused text writes nothing'
+
+
+def test_mkpatch_limits():
+    most = b''.join(b'%d 1\n' % (i % 64) for i in range(5460))
+    assert len(run('mkpatch', '--notes', '', data=most)[1]) == 65536
+    fails(1, 'at most 65,536', 'mkpatch', data=most + b'1 1\n')
+    fails(1, '1 bytes of notes', 'mkpatch', '--notes', 'x', data=most)
+
+
+def test_mkpatch_refuses():
+    for line, words in {
+        '1': '1 word found', '1 2 3': '3 words found', 'x 1': "'x' is not a section number", '-1 1': 'is not a section number',
+        '1.5 1': 'is not a section number', '4294967296 1': 'between 0 and 4294967295', '9' * 5000 + ' 1': 'between 0 and 4294967295',
+        '1 x': "'x' is not a length", '1 1,5': 'is not a length', '1 nan': 'is not a length', '1 inf': 'is not a length',
+        '1 1_0': 'is not a length', '1 1e999': 'too large', '1 ٣': 'is not a length', '1 0x1': 'is not a length',
+    }.items():
+        fails(1, 'line 2: ', 'mkpatch', data=b'7 7\n' + line.encode(), also=words)
+    fails(1, 'none: No such file', 'mkpatch', 'none')
+    fails(1, '.: Is a directory', 'mkpatch', '.')
+    fails(1, 'this is not text', 'mkpatch', 'negative.patch')
+    fails(1, '/none/x: No such file', 'mkpatch', '-', '/none/x', data=b'1 1')
+    fails(2, 'unrecognized', 'mkpatch', '--values', 'x', data=b'1 1')
+    fails(2, 'unrecognized', 'mkpatch', '-', '-', '-')
+    fails(2, 'expected one argument', 'mkpatch', '--notes')
+    closed('mkpatch', descriptor=0, words='standard input is closed')
+    closed('mkpatch', descriptor=1, words='standard output is closed')
+
+
+def test_full_device():
+    for status, *args in ((1, 'mkpatch'), (1, 'plot', 'negative.report'), (2, 'compare', 'negative.report', 'negative.report')):
+        with open('/dev/full', 'wb') as full:
+            done = subprocess.run([sys.executable, ROOT / 'tools' / args[0], *args[1:]], cwd=SAMPLES, stdin=subprocess.DEVNULL, stdout=full, stderr=subprocess.PIPE)
+        assert done.returncode == status and done.stderr.decode() == args[0] + ': standard output: No space left on device\n', done.stderr
+
+
+# ---- compare
+
+def written(folder, name, text):
+    path = pathlib.Path(folder, name)
+    path.write_text(text)
+    return str(path)
+
+
+def difference(a, b):
+    with tempfile.TemporaryDirectory() as folder:
+        status, out, said = run('compare', written(folder, 'a', a), written(folder, 'b', b))
+    lines = out.decode().splitlines()
+    assert said == '' and (status == 1) == (a != b), (status, said)
+    assert status == 0 or lines.pop(0).startswith('A is ')
+    return lines
+
+
+def test_compare_samples():
+    for path in SAMPLES.glob('*.report'):
+        text = path.read_text()
+        agree = f'both are {text.strip()}' if text.startswith('refused') else None
+        lines = difference(text, text)
+        assert len(lines) == 1 and lines[0].startswith('the reports agree') and (agree or '') in lines[0], lines
+
+
+def test_compare_words():
+    base = HEAD + '1 2 3FF8000000000000 150\n2 1 3FC0000000000000 13\n'
+    def doctored(old, new):
+        assert base.count(old) == 1
+        return difference(base, base.replace(old, new))
+    assert doctored('1 2 ', '1 3 ') == ['section 1: 2 rows in A, 3 in B']
+    assert doctored('00 150', '01 150') == [
+        'section 1: sum 3FF8000000000000 (1.5 mm) in A, 3FF8000000000001 (1.5000000000000002 mm) in B, neighbouring doubles']
+    assert doctored('00 150', '03 150')[0].endswith(', 3 doubles apart')
+    assert doctored(' 13', ' 12') == ['section 2: mill figure 13 hundredths in A, 12 hundredths in B, -1']
+    assert doctored('3FF8000000000000 150', 'refused 14') == ['section 1: sum 3FF8000000000000 (1.5 mm) in A, refused 14 in B']
+    assert doctored(' 150', ' refused 15') == ['section 1: mill figure 150 hundredths in A, refused 15 in B']
+    assert doctored('1 2 3FF8000000000000 150\n', '') == ['section 1: only in A, with 2 rows']
+    assert doctored('2 1 3FC', '3 1 3FC') == ['section 2: only in A, with 1 row', 'section 3: only in B, with 1 row']
+    assert difference('refused 3\n', 'refused 4\n') == ['A is a refused file: refused 3', 'B is a refused file: refused 4']
+    assert difference(HEAD, 'refused 3\n') == ['B is a refused file: refused 3']
+    zeros = HEAD + '1 1 {} 0\n'
+    assert difference(zeros.format('0000000000000000'), zeros.format('8000000000000000')) != []
+
+
+BAD = {
+    'no line feed': 'section rows bits hundredths', 'empty': '', 'another head': 'section rows bits\n', 'a missing field': HEAD + '1 2 3FF8000000000000\n',
+    'one field more': HEAD + '1 2 3FF8000000000000 150 1\n', 'two spaces': HEAD + '1  2 3FF8000000000000 150\n', 'small digits': HEAD + '1 2 3ff8000000000000 150\n',
+    'an infinity': HEAD + '1 2 7FF0000000000000 150\n', 'no rising keys': HEAD + '2 1 0000000000000000 0\n1 1 0000000000000000 0\n',
+    'a section twice': HEAD + 2 * '1 1 0000000000000000 0\n', 'words after a refusal': HEAD + '1 2 refused 14 1\n', 'a refusal of nothing': HEAD + '1 2 refused\n', 'no rows': HEAD + '1 refused 14\n',
+    'a refusal and more': 'refused 3\n' + HEAD,
+}
+
+
+def test_bad_reports():
+    with tempfile.TemporaryDirectory() as folder:
+        for name, text in BAD.items():
+            path = written(folder, name, text)
+            fails(2, 'is not' if not text.startswith(HEAD) else 'line ', 'compare', path, 'negative.report')
+        fails(1, name, 'plot', 'negative.report', path)
+    fails(2, 'none: No such file', 'compare', 'negative.report', 'none')
+    fails(2, '.: Is a directory', 'compare', '.', 'negative.report')
+    fails(2, 'is not a report: it is not text', 'compare', 'any-order.patch', 'negative.report')
+    fails(2, 'required', 'compare', 'negative.report')
+    fails(1, 'none: No such file', 'plot', 'none')
+    fails(2, 'required', 'plot')
+    fails(2, 'six reports', 'plot', *7 * ['negative.report'])
+    closed('plot', 'negative.report', descriptor=1, words='standard output is closed')
+    closed('compare', 'negative.report', '-', descriptor=0, words='standard input is closed', status=2)
+    closed('compare', 'negative.report', 'negative.report', descriptor=1, words='standard output is closed', status=2)
+    assert run('compare', '-', 'negative.report', data=(SAMPLES / 'negative.report').read_bytes())[0] == 0
+
+
+# ---- plot
+
+def boxes(svg):
+    """The line and the reach of each text of a picture, by a width that no letter of its font passes on average."""
+    for t in svg.iter(SVG + 'text'):
+        x, y, size, wide = float(t.get('x')), float(t.get('y')), float(t.get('font-size')), len(t.text)
+        wide *= size * (0.7 if t.get('font-weight') == 'bold' else 0.64)
+        start = {'start': x, 'middle': x - wide / 2, 'end': x - wide}[t.get('text-anchor')]
+        yield y, size, start, start + wide, t.text
+
+
+def drawn(*names, data=b''):
+    status, out, said = run('plot', *names, data=data)
+    assert (status, said) == (0, ''), said
+    svg = xml.etree.ElementTree.fromstring(out)
+    width, height = float(svg.get('width')), float(svg.get('height'))
+    found = sorted(boxes(svg))
+    for i, (y, size, start, end, text) in enumerate(found):
+        assert 0 <= start and end <= width and size <= y <= height, f'{text} leaves the picture'
+        for other in found[i + 1:]:
+            if other[0] - y < 0.75 * other[1]:
+                assert end <= other[2] or other[3] <= start, f'{text} and {other[4]} overlap'
+    return svg, [t for *_, t in found]
+
+
+def bars(svg):
+    return [r for r in svg.iter(SVG + 'rect') if r.find(SVG + 'title') is not None]
+
+
+def full(change):
+    """A report of 64 sections, with some lines changed."""
+    rows = {k: f'{k} {k % 9 + 1} {struct.pack(">d", 200 + k / 4).hex().upper()} {20000 + 25 * k}' for k in range(1, 65)}
+    rows.update(change)
+    return HEAD + ''.join(line + '\n' for _, line in sorted(rows.items()) if line)
+
+
+CHANGES = {
+    7: '7 9 ' + struct.pack('>d', 200 + 7 / 4).hex().upper() + ' 20175',
+    12: '12 4 ' + struct.pack('>Q', struct.unpack('>Q', struct.pack('>d', 203.0))[0] + 1).hex().upper() + ' 20300',
+    20: '20 3 refused 14',
+    21: '21 4 41747AE148000000 refused 15',
+    30: '',
+    41: '41 6 C06A480000000000 -21025',
+    4294967295: '4294967295 4294967295 41747AE147AE147B 2147483647',
+}
+
+
+def test_plot_two():
+    with tempfile.TemporaryDirectory() as folder:
+        book, recut = written(folder, 'book', full({})), written(folder, 'recut', full(CHANGES))
+        svg, texts = drawn(book, recut)
+        assert texts.count('≠') == len(CHANGES) and any('7 of 65 sections differ' in t for t in texts)
+        assert len(bars(svg)) == 64 + 65 - 3
+        for words in ('B: 9 rows, not 8', 'B: other bits, same figure', 'B: refused, A is not', 'B: missing', 'B: -420.50 mm', 'B: not in A',
+                      'refused 14: sum too large', 'refused 15: mill figure too large', 'no rows'):
+            assert words in texts, words
+        svg, texts = drawn(recut, recut, book)
+        assert texts.count('≠') == len(CHANGES) and 'C: A is refused' in texts
+        assert '≠' not in drawn(book, book)[1]
+
+
+def test_plot_samples():
+    for path in sorted(SAMPLES.glob('*.report')):
+        svg, texts = drawn(path.name)
+        sections = [line.split() for line in path.read_text().splitlines()[1:]]
+        assert [t for t in texts if t in {s[0] for s in sections}] != [] or not sections
+        assert len(bars(svg)) == sum('refused' not in s for s in sections)
+    names = ['two-sections.report', 'both-zeros.report', 'refused-14-sum.report', 'refused-3-no-mark.report', 'negative.report', '-']
+    assert any('a refused file: refused 3' in t for t in drawn(*names, data=HEAD.encode())[1])
+    assert any('a file is refused' in t for t in drawn('no-rows.report', 'refused-3-no-mark.report')[1])
+    with tempfile.TemporaryDirectory() as folder:
+        drawn(written(folder, 'a<b>&' + 100 * 'x', HEAD), 'negative.report')
+
+
+def test_help():
+    for tool in ('mkpatch', 'compare', 'plot'):
+        status, out, said = run(tool, '--help')
+        assert status == 0 and out.startswith(b'usage: ' + tool.encode()) and said == ''
+
+
+def main():
+    tests = [f for name, f in globals().items() if name.startswith('test_')]
+    for test in tests:
+        test()
+    print(f'tools.py: {len(tests)} tests agree')
+
+
+main()

@@ -1,0 +1,128 @@
+"""Reports of `girths` read back, for the tools beside this file. Fields are found by the names of the head line."""
+import os
+import re
+import struct
+import sys
+
+HEAD = ('section', 'rows', 'bits', 'hundredths')
+FORMS = {
+    'section': (re.compile(r'[0-9]{1,10}'), int),
+    'rows': (re.compile(r'[0-9]{1,10}'), int),
+    'bits': (re.compile(r'(?![7F]FF)[0-9A-F]{16}'), lambda w: int(w, 16)),  # an exponent field of all ones is no finite double
+    'hundredths': (re.compile(r'-?[0-9]{1,10}'), int),
+}
+
+
+class Bad(Exception):
+    """What is wrong with a report, in words."""
+
+
+class Refused(int):
+    """A refusal's number in place of a field."""
+
+
+class Report:
+    """A report: the sections with their fields by name, or the refusal of the whole file."""
+
+    def __init__(self, name, sections, refused=None):
+        self.name, self.sections, self.refused = name, sections, refused
+
+
+def field(name, word):
+    form, read = FORMS[name]
+    if not form.fullmatch(word):
+        raise Bad(f'{word!r} is not what the field {name} holds')
+    return read(word)
+
+
+def fields(names, line):
+    """The fields of a line; `refused N` stands for its field and all later ones."""
+    words, found = line.split(' '), {}
+    for i, name in enumerate(names):
+        if words[i:i + 1] == ['refused']:
+            if len(words) != i + 2 or i < 2 or not words[i + 1].isdecimal():
+                raise Bad('`refused` and a number end a line')
+            return found | {left: Refused(words[i + 1]) for left in names[i:]}
+        if i >= len(words):
+            raise Bad(f'the field {name} is missing')
+        found[name] = field(name, words[i])
+    if len(words) > len(names):
+        raise Bad(f'there are {len(words)} fields in place of {len(names)}')
+    return found
+
+
+def parse(name, text):
+    lines = text.split('\n')
+    if lines.pop() != '' or not lines:
+        raise Bad(f'{name} is not a report: it does not end with a line feed')
+    whole = re.fullmatch(r'refused ([0-9]+)', lines[0])
+    if whole and len(lines) == 1:
+        return Report(name, {}, Refused(whole[1]))
+    names = tuple(lines[0].split(' '))
+    if names != HEAD:
+        raise Bad(f'{name} is not a report: its first line is neither "{" ".join(HEAD)}" nor a refusal')
+    sections = {}
+    for number, line in enumerate(lines[1:], 2):
+        try:
+            found = fields(names, line)
+        except Bad as e:
+            raise Bad(f'{name}, line {number}: {e}') from None
+        if sections and found['section'] <= max(sections):
+            raise Bad(f'{name}, line {number}: the sections do not rise')
+        sections[found['section']] = found
+    return Report(name, sections)
+
+
+def load(name):
+    """The report in a file, or on standard input where the name is -."""
+    shown = 'standard input' if name == '-' else name
+    try:
+        if name == '-':
+            if sys.stdin is None:
+                raise Bad('standard input is closed')
+            data = sys.stdin.buffer.read()
+        else:
+            with open(name, 'rb') as f:
+                data = f.read()
+    except OSError as e:
+        raise Bad(f'{shown}: {e.strerror}') from None
+    try:
+        return parse(shown, data.decode('ascii'))
+    except UnicodeDecodeError:
+        raise Bad(f'{shown} is not a report: it is not text') from None
+
+
+def write(text):
+    """Writes a text to standard output, whole or with a reason."""
+    if sys.stdout is None:
+        raise Bad('standard output is closed')
+    try:
+        sys.stdout.buffer.write(text.encode())
+        sys.stdout.buffer.flush()
+    except OSError as e:
+        os.dup2(os.open(os.devnull, os.O_WRONLY), sys.stdout.fileno())  # nothing is left to flush at the end
+        raise Bad(f'standard output: {e.strerror}') from None
+
+
+# ---- words and numbers
+
+def double(bits):
+    return struct.unpack('<d', struct.pack('<Q', bits))[0]
+
+
+def place(bits):
+    """The place of a finite double among all doubles: neighbours differ by 1."""
+    return -(bits & 2 ** 63 - 1) if bits >> 63 else bits
+
+
+def millimetres(hundredths):
+    """A mill figure as millimetres, exactly."""
+    whole, part = divmod(abs(hundredths), 100)
+    return f'{"-" if hundredths < 0 else ""}{whole}.{part:02}'
+
+
+def differing(a, b):
+    """The names of the fields in which two sections differ; None stands for a section that is missing."""
+    if a is None or b is None:
+        return [] if a is b else ['section']
+    return [name for name in a if (a[name], isinstance(a[name], Refused)) != (b[name], isinstance(b[name], Refused))]
