@@ -13,7 +13,7 @@ use Rattle.columns.specs.Columns.{columnsFit}
 use Rattle.record.specs.Sound.{sound}
 use Rattle.record.specs.Section.{Section}
 use Rattle.lists.specs.Lists.{anyOf}
-use Rattle.table.specs.Calls.{overfull, leaves, addSections, columnGrounds, columnOutcome, sectionGrounds, addGrounds, addOutcome, addLeaves}
+use Rattle.table.specs.Calls.{overflows, leaves, addSections, columnGrounds, columnOutcome, sectionGrounds, addGrounds, addOutcome, addLeaves}
 use Rattle.add.specs.Steps.{Stores}
 
 module _ (kind : Kind) (s : List ℕ) (g : ℕ) (ks vs : List ℕ) (work : ℕ) where
@@ -54,11 +54,11 @@ module _ (kind : Kind) (s : List ℕ) (g : ℕ) (ks vs : List ℕ) (work : ℕ) 
     unfolding addGrounds
     by-sections = accepted-first (columnGrounds kind s g ks vs work) (sectionGrounds (length s) us) tt (length us) good
 
-    pub too-many : anyOf overfull us ≡ true → Answered (refused 11) s
+    pub too-many : anyOf overflows us ≡ true → Answered (refused 11) s
     too-many e = unchanged 11 (by-sections ∙ rw e)
 
     -- what is left is whether there is room
-    pub all-good : anyOf overfull us ≡ false → (r : Outcome ℕ) (s′ : List ℕ) → Stores s us r s′ → Answered r s′
+    pub all-good : anyOf overflows us ≡ false → (r : Outcome ℕ) (s′ : List ℕ) → Stores s us r s′ → Answered r s′
     all-good e r s′ h =
         let q : r ≡ addOutcome kind s g ks vs work = h .0 ∙ sym (by-sections ∙ rw e) in
         (q, h .1 ∙ ap (λ (o : Outcome ℕ). leaves o us s) q)

@@ -1,4 +1,4 @@
--- Row counts after an add: those held and those brought. So whether a section is overfull can be seen before any row is added.
+-- Row counts after an add: those held and those brought. So whether a section is overflows can be seen before any row is added.
 use Prim.Native.Nat.{ℕ, _+_, _≤_, _<_}
 use mathlib.Core.Path.{_≡_, refl, sym, ap, ap₂, _∙_}
 use mathlib.Core.Bool.{Bool, true, false, cond, _||_, or-true, true≢false}
@@ -14,12 +14,12 @@ use Rattle.columns.specs.declared.Kind.{Kind}
 use Rattle.columns.specs.Columns.{Row, columnRows, rowsOf, columnKeys}
 use Rattle.record.specs.Section.{Section, find}
 use Rattle.table.specs.Combine.{ofRow, combine, absorb, added}
-use Rattle.table.specs.Calls.{overfull}
+use Rattle.table.specs.Calls.{overflows}
 use Rattle.lists.specs.Lists.{anyOf, occurrences}
 use Rattle.lists.proofs.Booleans.{same-test}
 use Rattle.lists.proofs.All.{All}
 use Rattle.table.proofs.Lookup.{Rising, keysIn, rising-tail, find-nil, find-head, find-tail, find-above, absorb-cases, absorb-rising, find-absorb, join, only, only-is, only-not, join-none}
-use Rattle.add.specs.Steps.{countOf, countIn, passes}
+use Rattle.add.specs.Steps.{countOf, countIn, countOverflows}
 use Rattle.lists.proofs.Scanning.{occurrences-le}
 use Rattle.columns.proofs.Cells.{row-keys}
 
@@ -28,7 +28,7 @@ module _ (p : ℕ → ℕ → Bool) where
   abbrev test : Section → Bool
   test s = p (s .key) (s .count)
 
-  -- a section that passes has a number that does
+  -- a section that countOverflows has a number that does
   pub any-count : (ts : List Section) → All (λ (s : Section). 1 ≤ s .count) ts → Rising (keysIn ts) → anyOf test ts ≡ true
       → (k : ℕ) × (0 < countIn k ts) × (p k (countIn k ts) ≡ true)
   unfolding anyOf
@@ -48,7 +48,7 @@ module _ (p : ℕ → ℕ → Bool) where
           let h : countIn (w .0) (t ∷ ts) ≡ countIn (w .0) ts = ap countOf (find-tail (w .0) t ts no) in
           (w .0, omega (arith, w .1), rw h (w .2))
 
-  -- and a number that passes belongs to such a section
+  -- and a number that countOverflows belongs to such a section
   pub count-any : (k : ℕ) (ts : List Section) → 0 < countIn k ts → p k (countIn k ts) ≡ true → anyOf test ts ≡ true
   unfolding anyOf
   count-any k [] h e = absurd (omega (arith, ap countOf (find-nil k)))
@@ -127,7 +127,7 @@ count-few k (t ∷ ts) a = by (ℕ-discrete k (t .key)) (count-few k ts (a .1))
     by (yes q) ih = rw (find-head k t ts q) (a .0)
     by (no q) ih = rw (find-tail k t ts q) ih
 
--- ---- whether an add makes a section overfull
+-- ---- whether an add overflows-by a section overflows
 abbrev full : ℕ → ℕ → Bool
 full k c = ltb 4294967295 c
 
@@ -138,36 +138,36 @@ module _ (kind : Kind) (ks vs : List ℕ) (ts : List Section) (a : All (λ (s : 
   counts : (k : ℕ) → countIn k after ≡ countIn k ts + occurrences k (columnKeys ks)
   counts k = count-added k (rowsOf kind ks vs) ts r ∙ ap (λ (l : List ℕ). countIn k ts + occurrences k l) (row-keys kind ks vs)
 
-  -- the add makes section k overfull
-  makes : (k : ℕ) → passes ks k (countIn k ts) ≡ true → anyOf overfull after ≡ true
-  makes k e =
+  -- the add overflows-by section k overflows
+  overflows-by : (k : ℕ) → countOverflows ks k (countIn k ts) ≡ true → anyOf overflows after ≡ true
+  overflows-by k e =
       let h = ltb-true 4294967295 (countIn k ts + occurrences k (columnKeys ks)) e in
       let l : 4294967295 < countIn k after = omega (arith, counts k) in
       count-any full k after (omega arith) (lt-ltb 4294967295 (countIn k after) l)
 
-  -- and so does every section that becomes overfull
-  made : anyOf overfull after ≡ true → (k : ℕ) × (passes ks k (countIn k ts) ≡ true)
-  made e =
+  -- and so does every section that becomes overflows
+  overflow-by : anyOf overflows after ≡ true → (k : ℕ) × (countOverflows ks k (countIn k ts) ≡ true)
+  overflow-by e =
       let w = any-count full after (added-counts (rowsOf kind ks vs) ts a) (added-rising (rowsOf kind ks vs) ts r) e in
       let h = ltb-true 4294967295 (countIn (w .0) after) (w .2) in
       (w .0, lt-ltb 4294967295 (countIn (w .0) ts + occurrences (w .0) (columnKeys ks)) (omega (arith, counts (w .0))))
 
   -- with few rows, a section of the table
-  pub held-makes : columnRows ks ≤ 4294967295 → anyOf (λ (s : Section). passes ks (s .key) (s .count)) ts ≡ anyOf overfull after
-  held-makes few = same-test _ _ (λ e. let w = any-count (passes ks) ts a r e in makes (w .0) (w .2)) back
+  pub section-overflow : columnRows ks ≤ 4294967295 → anyOf (λ (s : Section). countOverflows ks (s .key) (s .count)) ts ≡ anyOf overflows after
+  section-overflow few = same-test _ _ (λ e. let w = any-count (countOverflows ks) ts a r e in overflows-by (w .0) (w .2)) back
     where
-      back : anyOf overfull after ≡ true → anyOf (λ (s : Section). passes ks (s .key) (s .count)) ts ≡ true
+      back : anyOf overflows after ≡ true → anyOf (λ (s : Section). countOverflows ks (s .key) (s .count)) ts ≡ true
       back e =
-          let w = made e in
+          let w = overflow-by e in
           let h = ltb-true 4294967295 (countIn (w .0) ts + occurrences (w .0) (columnKeys ks)) (w .1) in
-          count-any (passes ks) (w .0) ts (omega (arith, occurrences-le (w .0) (columnKeys ks), length-cells 4 number (columnRows ks) ks)) (w .1)
+          count-any (countOverflows ks) (w .0) ts (omega (arith, occurrences-le (w .0) (columnKeys ks), length-cells 4 number (columnRows ks) ks)) (w .1)
 
   -- in any case, the section of a row
-  pub row-makes : All (λ (s : Section). s .count ≤ 4294967295) ts → anyOf (λ (k : ℕ). passes ks k (countIn k ts)) (columnKeys ks) ≡ anyOf overfull after
-  row-makes few = same-test _ _ (λ e. let w = any-number (λ (k : ℕ). passes ks k (countIn k ts)) (columnKeys ks) e in makes (w .0) (w .1)) back
+  pub row-overflow : All (λ (s : Section). s .count ≤ 4294967295) ts → anyOf (λ (k : ℕ). countOverflows ks k (countIn k ts)) (columnKeys ks) ≡ anyOf overflows after
+  row-overflow few = same-test _ _ (λ e. let w = any-number (λ (k : ℕ). countOverflows ks k (countIn k ts)) (columnKeys ks) e in overflows-by (w .0) (w .1)) back
     where
-      back : anyOf overfull after ≡ true → anyOf (λ (k : ℕ). passes ks k (countIn k ts)) (columnKeys ks) ≡ true
+      back : anyOf overflows after ≡ true → anyOf (λ (k : ℕ). countOverflows ks k (countIn k ts)) (columnKeys ks) ≡ true
       back e =
-          let w = made e in
+          let w = overflow-by e in
           let h = ltb-true 4294967295 (countIn (w .0) ts + occurrences (w .0) (columnKeys ks)) (w .1) in
-          number-any (λ (k : ℕ). passes ks k (countIn k ts)) (w .0) (columnKeys ks) (omega (arith, count-few (w .0) ts few)) (w .1)
+          number-any (λ (k : ℕ). countOverflows ks k (countIn k ts)) (w .0) (columnKeys ks) (omega (arith, count-few (w .0) ts few)) (w .1)

@@ -1,4 +1,4 @@
--- One claim over the whole book, by computing.
+-- One claim over the whole benchFigures, by computing.
 use mathlib.Core.Path.{_≡_, refl}
 use mathlib.Core.List.{map}
 use lib.Ieee.{add, ofBits, toBits, round}
@@ -7,8 +7,8 @@ use Rattle.record.specs.Section.{find, kept}
 use Rattle.table.specs.Combine.{ofRow, levelOf, combine, absorb, added}
 use Rattle.finish.specs.Sum.{nearestDouble, tooLarge}
 use Rattle.finish.specs.Figure.{millFigure, beyond}
-use Rattle.cases.specs.Book.{Case, section, addedUp, computed, book}
+use Rattle.cases.specs.BenchFigures.{Case, section, addedUp, computed, benchFigures}
 
-pub figures : map computed book ≡ map (λ (c : Case). c .figure) book
+pub figures : map computed benchFigures ≡ map (λ (c : Case). c .figure) benchFigures
 unfolding section addedUp find kept top topFrom given contribution ofRow levelOf combine absorb added nearestDouble tooLarge millFigure beyond round ofBits toBits add
 figures = refl

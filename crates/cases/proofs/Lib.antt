@@ -1,2 +1,2 @@
--- The book's figures are those of the definitions.
+-- The benchFigures's figures are those of the definitions.
 pub mod Figures

@@ -8,38 +8,38 @@ ghost use lib.ListN.{length};
 ghost use Rattle.girths.specs.Input.{Within};
 
 // How many bytes were read, or that a read failed.
-enum Reading {
+enum Received {
     Bytes(usize),
     Failed,
 }
 
 // One read after the first done bytes.
-fn read_more(buffer: &mut [u8], done: usize) -> Reading
+fn read_more(buffer: &mut [u8], done: usize) -> Received
     requires { ⌜ done ≤ length (now buffer) ⌝ }
     ensures { λ r. ⌜ Within (length (now (buffer .entry)) - done) r ⌝ }
 {
     let got = libc::read(STDIN_FILENO, &mut buffer[done..]);
     if got < 0 {
-        return Reading::Failed;
+        return Received::Failed;
     }
-    Reading::Bytes(io::count(got, &buffer[done..]))
+    Received::Bytes(io::count(got, &buffer[done..]))
 }
 
 // Reads until the input ends or the buffer is full.
-fn read_all(buffer: &mut [u8]) -> Reading
+fn read_all(buffer: &mut [u8]) -> Received
     ensures { λ r. ⌜ Within (length (now (buffer .entry))) r ⌝ }
 {
     let mut done = 0;
     while done < buffer.len() {
-        let Reading::Bytes(n) = read_more(buffer, done) else {
-            return Reading::Failed;
+        let Received::Bytes(n) = read_more(buffer, done) else {
+            return Received::Failed;
         };
         if n == 0 {
-            return Reading::Bytes(done);
+            return Received::Bytes(done);
         }
         done += n;
     }
-    Reading::Bytes(done)
+    Received::Bytes(done)
 }
 
 fn print_report(file: &[u8]) {
@@ -60,7 +60,7 @@ fn print_report(file: &[u8]) {
 fn main() {
     let mut buffer = [0u8; 65537];
     match read_all(&mut buffer) {
-        Reading::Bytes(n) => print_report(&buffer[..n]),
-        Reading::Failed => os::fail(b"girths: standard input"),
+        Received::Bytes(n) => print_report(&buffer[..n]),
+        Received::Failed => os::fail(b"girths: standard input"),
     }
 }

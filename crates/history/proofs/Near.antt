@@ -32,10 +32,10 @@ module _ (k t : ℕ) (bs : List ℕ) where
 
   -- half a lowest unit for each row
   pub kept-within : topOf bs ≤ t → natAbs (kept (sectionAtTop k t bs) -ℤ exactSum bs) * 2 ≤ length bs * unit (t - 2)
-  kept-within h = rw (kept-levels, turn (levelSum (total bs) t 3) (exactSum bs)) (section-near bs t 2 h)
+  kept-within h = rw (kept-levels, apart-comm (levelSum (total bs) t 3) (exactSum bs)) (section-near bs t 2 h)
     where
-      turn : (x y : ℤ) → natAbs (x -ℤ y) ≡ natAbs (y -ℤ x)
-      turn = byParts₂ _ (λ a b c d. simp ints (omega arith))
+      apart-comm : (x y : ℤ) → natAbs (x -ℤ y) ≡ natAbs (y -ℤ x)
+      apart-comm = byParts₂ _ (λ a b c d. simp ints (omega arith))
 
 -- ---- held at the largest top
 -- from 1 on, the largest row has 2^39 units of the level below

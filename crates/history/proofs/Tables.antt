@@ -19,7 +19,7 @@ use Rattle.record.specs.Layout.{capacity}
 use Rattle.record.specs.Sound.{sound}
 use Rattle.record.specs.Section.{Section, sections, written}
 use Rattle.table.specs.Combine.{added, merged}
-use Rattle.table.specs.Calls.{overfull, leaves, addSections, columnGrounds, addGrounds, addOutcome, mergeSections, mergeGrounds, mergeOutcome}
+use Rattle.table.specs.Calls.{overflows, leaves, addSections, columnGrounds, addGrounds, addOutcome, mergeSections, mergeGrounds, mergeOutcome}
 use Rattle.lists.specs.Lists.{anyOf}
 use Rattle.lists.proofs.Booleans.{and-true}
 use Rattle.lists.proofs.All.{any-map}
@@ -33,9 +33,9 @@ use Rattle.history.specs.Run.{Store, after, afterAdd, afterMerge}
 use Rattle.history.proofs.Canonical.{added-canonical, merged-canonical}
 
 -- ---- 11 and 12 on the sections of rows
-pub few-canonical : (rows : List Row) → anyOf overfull (canonical rows) ≡ tooManyRows rows
+pub few-canonical : (rows : List Row) → anyOf overflows (canonical rows) ≡ tooManyRows rows
 unfolding tooManyRows canonical sectionAtTop
-few-canonical rows = any-map overfull (λ k. sectionOf k (valuesOf k rows)) (sectionNumbers rows)
+few-canonical rows = any-map overflows (λ k. sectionOf k (valuesOf k rows)) (sectionNumbers rows)
 
 pub length-canonical : (rows : List Row) → length (canonical rows) ≡ length (sectionNumbers rows)
 unfolding canonical

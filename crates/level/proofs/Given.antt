@@ -12,7 +12,7 @@ use lib.Pow.{pow-pos, pow-mono, pow-add}
 use lib.Ieee.Nearest.{closest}
 use borrow.Author.Tests.{eqb-true, eqb-false}
 use Rattle.level.specs.Level.{unit, nearestTo, left, given}
-use Rattle.level.specs.Cut.{apart, restOf, overOf}
+use Rattle.level.specs.Cut.{apart, restOf, roundedUp}
 use Rattle.level.proofs.Near.{closest-near, closest-le, closest-small}
 use Rattle.integers.proofs.Laws.{natAbs-neg, negℤ-*ℤ}
 use Rattle.level.proofs.Signs.{natAbs-signed, sub-signed}
@@ -54,7 +54,7 @@ pub rest-half : (x u : ℕ) → 0 < u → restOf x u * 2 ≤ u
 rest-half x u h = let near = closest-near x u h in apart-half x (closest x u * u) u (near .under) (near .over)
 
 size-left : (x j : ℕ) → natAbs (left (pos x) j) ≡ restOf x (unit j)
-size-left x j = ap natAbs (sub-signed x (closest x (unit j) * unit j)) ∙ natAbs-signed (overOf x (unit j)) (restOf x (unit j))
+size-left x j = ap natAbs (sub-signed x (closest x (unit j) * unit j)) ∙ natAbs-signed (roundedUp x (unit j)) (restOf x (unit j))
 
 pub left-size : (z : ℤ) (j : ℕ) → natAbs (left z j) ≡ restOf (natAbs z) (unit j)
 left-size (pos x) j = size-left x j

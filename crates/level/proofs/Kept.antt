@@ -14,7 +14,7 @@ use Rattle.level.proofs.Near.{pow-sum}
 use Rattle.level.proofs.Signs.{natAbs-signed}
 use Rattle.level.specs.Cut.{restOf}
 use Rattle.level.proofs.Top.{contribution-start, top-place}
-use Rattle.level.proofs.Ladder.{rung, rung-below, rest-scale, rest-whole}
+use Rattle.level.proofs.Descent.{givenBelow, givenBelow-is, rest-scale, rest-whole}
 
 -- what is left of z after the n levels from t down
 unfoldable pub leftAfter : ℕ → ℤ → ℕ → ℤ
@@ -37,8 +37,8 @@ after-none t z n h =
     let half : natAbs (leftAfter t z (suc n)) * 2 ≤ 1 = rw e at (after-half t z n) in
     size-zero (leftAfter t z (suc n)) (omega arith)
 
-after-step : (t : ℕ) (z : ℤ) (n : ℕ) → leftAfter t z (suc n) ≡ leftAfter t z n -ℤ rung t z n *ℤ pos (unit (t - n))
-unfolding leftAfter rung
+after-step : (t : ℕ) (z : ℤ) (n : ℕ) → leftAfter t z (suc n) ≡ leftAfter t z n -ℤ givenBelow t z n *ℤ pos (unit (t - n))
+unfolding leftAfter givenBelow
 after-step zero z zero = refl
 after-step zero z (suc n) = rw zero-mul (sym (+ℤ-idr (left z 0)))
 after-step (suc s) z zero = rw sub-zero refl
@@ -54,7 +54,7 @@ levelSum-given t z zero = +ℤ-idl z
 levelSum-given t z (suc n) =
     let k = levelSum (given (suc t) z) t n in
     let r = below (given (suc t) z) t n *ℤ pos (unit (t - n)) in
-    ap (λ (w : ℤ). k +ℤ r +ℤ w) (after-step t z n ∙ ap (λ (g : ℤ). leftAfter t z n -ℤ g *ℤ pos (unit (t - n))) (rung-below t z n))
+    ap (λ (w : ℤ). k +ℤ r +ℤ w) (after-step t z n ∙ ap (λ (g : ℤ). leftAfter t z n -ℤ g *ℤ pos (unit (t - n))) (givenBelow-is t z n))
     ∙ move k r (leftAfter t z n) ∙ levelSum-given t z n
 
 -- of a row, for any start at its top or above

@@ -19,10 +19,10 @@ abbrev pub restOf : ℕ → ℕ → ℕ
 restOf x u = apart x (closest x u * u)
 
 -- whether that is negative
-abbrev pub overOf : ℕ → ℕ → Bool
-overOf x u = ltb x (closest x u * u)
+abbrev pub roundedUp : ℕ → ℕ → Bool
+roundedUp x u = ltb x (closest x u * u)
 
 -- a sign, turned or kept
-abbrev pub turn : Bool → Bool → Bool
-turn g true = not g
-turn g false = g
+abbrev pub flippedIf : Bool → Bool → Bool
+flippedIf g true = not g
+flippedIf g false = g

@@ -5,7 +5,7 @@ ghost use lib.IntN.{natAbs, _+ℤ_};
 ghost use lib.Ieee.Nearest.{closest};
 ghost use Rattle.level.specs.Double.{field, fraction, finite, significand, negative, signed};
 ghost use Rattle.level.specs.Level.{top};
-ghost use Rattle.level.specs.Cut.{shiftOf, restOf, overOf, turn};
+ghost use Rattle.level.specs.Cut.{shiftOf, restOf, roundedUp, flippedIf};
 ghost use Rattle.level.specs.Carry.{carryOf, residueOf, heldOf, totalOf};
 ghost use Rattle.level.specs.Contributions.{contributionsOf};
 
@@ -117,12 +117,12 @@ fn nearest(x: u64, d: u64) -> u64
 struct Cut {
     units: u64,
     rest: u64,
-    over: bool,
+    rounded_up: bool,
 }
 
 fn cut_at(x: u64, d: u64) -> Cut
     requires { ⌜ (x < 2 ^ 53) × (d < 54) ⌝ }
-    ensures { λ r. ⌜ (r .units ≡ closest x (2 ^ d)) × (r .rest ≡ restOf x (2 ^ d)) × (r .over ≡ overOf x (2 ^ d)) ⌝ }
+    ensures { λ r. ⌜ (r .units ≡ closest x (2 ^ d)) × (r .rest ≡ restOf x (2 ^ d)) × (r .«rounded_up» ≡ roundedUp x (2 ^ d)) ⌝ }
 {
     let units = nearest(x, d);
     let whole = units << d;
@@ -130,13 +130,13 @@ fn cut_at(x: u64, d: u64) -> Cut
         Cut {
             units,
             rest: whole - x,
-            over: true,
+            rounded_up: true,
         }
     } else {
         Cut {
             units,
             rest: x - whole,
-            over: false,
+            rounded_up: false,
         }
     }
 }
@@ -144,34 +144,34 @@ fn cut_at(x: u64, d: u64) -> Cut
 // What stands one and two levels below a cut, of a rest in units of 2^d.
 struct Lower {
     middle: u64,
-    over: bool,
+    rounded_up: bool,
     low: u64,
 }
 
 fn lower_two(rest: u64, d: u64) -> Lower
     requires { ⌜ (rest * 2 ≤ 2 ^ d) × (d < 54) ⌝ }
-    ensures { λ r. ⌜ (r .middle ≡ closest (rest * 2 ^ 40) (2 ^ d)) × (r .over ≡ overOf (rest * 2 ^ 40) (2 ^ d)) × (r .low ≡ closest (restOf (rest * 2 ^ 40) (2 ^ d) * 2 ^ 40) (2 ^ d)) ⌝ }
+    ensures { λ r. ⌜ (r .middle ≡ closest (rest * 2 ^ 40) (2 ^ d)) × (r .«rounded_up» ≡ roundedUp (rest * 2 ^ 40) (2 ^ d)) × (r .low ≡ closest (restOf (rest * 2 ^ 40) (2 ^ d) * 2 ^ 40) (2 ^ d)) ⌝ }
 {
     if d <= 40 {
         return Lower {
             middle: rest << (40 - d),
-            over: false,
+            rounded_up: false,
             low: 0,
         };
     }
     let c = cut_at(rest, d - 40);
     Lower {
         middle: c.units,
-        over: c.over,
+        rounded_up: c.rounded_up,
         low: c.rest << (80 - d),
     }
 }
 
-// A sign, turned or kept.
-fn turned(sign: bool, over: bool) -> bool
-    ensures { λ r. ⌜ r ≡ turn sign over ⌝ }
+// A sign, flipped_if or kept.
+fn flipped_if(sign: bool, flip: bool) -> bool
+    ensures { λ r. ⌜ r ≡ flippedIf sign flip ⌝ }
 {
-    if over { !sign } else { sign }
+    if flip { !sign } else { sign }
 }
 
 // A number of a sign and a size.
@@ -199,8 +199,8 @@ pub fn contributions_of(bits: u64) -> Contributions
     let sign = is_negative(bits);
     let first = cut_at(digits(bits), d);
     let next = lower_two(first.rest, d);
-    let sign1 = turned(sign, first.over);
-    let sign2 = turned(sign1, next.over);
+    let sign1 = flipped_if(sign, first.rounded_up);
+    let sign2 = flipped_if(sign1, next.rounded_up);
     Contributions {
         top: t as u32,
         high: with_sign(sign, first.units),
@@ -252,9 +252,9 @@ pub fn add_held(a: Held, b: Held) -> Held
     ensures { λ r. ⌜ r ≡ heldOf (totalOf a +ℤ totalOf b) ⌝ }
 {
     let sum = a.residue + b.residue;
-    let over = with_sign(false, sum >> 50);
+    let carried = with_sign(false, sum >> 50);
     Held {
         residue: last_digits(sum, 50),
-        carry: plus(plus(a.carry, b.carry), over),
+        carry: plus(plus(a.carry, b.carry), carried),
     }
 }

@@ -11,7 +11,7 @@ use Rattle.refusal.specs.Outcome.{Outcome, accepted, refused, ground, outcome}
 use Rattle.record.specs.Layout.{capacity}
 use Rattle.record.specs.Sound.{sound}
 use Rattle.record.specs.Section.{written}
-use Rattle.table.specs.Calls.{leaves, mergeLeaves, overfull, mergeSections, mergeGrounds, mergeOutcome}
+use Rattle.table.specs.Calls.{leaves, mergeLeaves, overflows, mergeSections, mergeGrounds, mergeOutcome}
 use Rattle.lists.specs.Lists.{anyOf}
 
 module _ (s : List ℕ) (g : ℕ) (s′ : List ℕ) (g′ : ℕ) where
@@ -25,11 +25,11 @@ module _ (s : List ℕ) (g : ℕ) (s′ : List ℕ) (g′ : ℕ) where
     not-sound₂ q = rw (p, q)
 
     module _ (q : sound s′ g′ ≡ true) where
-      pub too-many-rows : anyOf overfull (mergeSections s g s′ g′) ≡ true → refused 11 ≡ mergeOutcome s g s′ g′
+      pub too-many-rows : anyOf overflows (mergeSections s g s′ g′) ≡ true → refused 11 ≡ mergeOutcome s g s′ g′
       unfolding mergeGrounds
       too-many-rows r = rw (p, q, r)
 
-      module _ (r : anyOf overfull (mergeSections s g s′ g′) ≡ false) where
+      module _ (r : anyOf overflows (mergeSections s g s′ g′) ≡ false) where
         pub too-many-keys : capacity (length s) < length (mergeSections s g s′ g′) → refused 12 ≡ mergeOutcome s g s′ g′
         unfolding mergeGrounds
         too-many-keys h = rw (p, q, r, lt-ltb (capacity (length s)) (length (mergeSections s g s′ g′)) h)
@@ -42,15 +42,15 @@ module _ (s : List ℕ) (g : ℕ) (s′ : List ℕ) (g′ : ℕ) where
   pub record Accepted (n : ℕ) : Type 0 where
     pub sound₁ : T (sound s g)
     pub sound₂ : T (sound s′ g′)
-    pub few : anyOf overfull (mergeSections s g s′ g′) ≡ false
+    pub few : anyOf overflows (mergeSections s g s′ g′) ≡ false
     pub groups : n ≡ length (mergeSections s g s′ g′)
     pub room : length (mergeSections s g s′ g′) ≤ capacity (length s)
 
   pub accepted-says : (n : ℕ) → accepted n ≡ mergeOutcome s g s′ g′ → Accepted n
   unfolding mergeGrounds
-  accepted-says n e = by (sound s g) refl (sound s′ g′) refl (anyOf overfull (mergeSections s g s′ g′)) refl (ltb (capacity (length s)) (length (mergeSections s g s′ g′))) refl e
+  accepted-says n e = by (sound s g) refl (sound s′ g′) refl (anyOf overflows (mergeSections s g s′ g′)) refl (ltb (capacity (length s)) (length (mergeSections s g s′ g′))) refl e
     where
-      by : (a : Bool) → sound s g ≡ a → (b : Bool) → sound s′ g′ ≡ b → (c : Bool) → anyOf overfull (mergeSections s g s′ g′) ≡ c
+      by : (a : Bool) → sound s g ≡ a → (b : Bool) → sound s′ g′ ≡ b → (c : Bool) → anyOf overflows (mergeSections s g s′ g′) ≡ c
           → (d : Bool) → ltb (capacity (length s)) (length (mergeSections s g s′ g′)) ≡ d
           → accepted n ≡ outcome (ground 7 (not a || not b) ∷ ground 11 c ∷ ground 12 d ∷ []) (length (mergeSections s g s′ g′)) → Accepted n
       by true p true q false r false t e =

@@ -22,7 +22,7 @@ use Rattle.record.specs.Section.{Section, meaning, recordOf, sections, sectionB
 use Rattle.record.proofs.Laws.{length-encode, decode-part}
 use Rattle.record.proofs.Sound.{sound-parts, sound-made}
 use Rattle.record.proofs.Found.{sound-record-at}
-use Rattle.table.specs.Calls.{overfull}
+use Rattle.table.specs.Calls.{overflows}
 use Rattle.lists.specs.Lists.{anyOf}
 use Rattle.lists.proofs.All.{All, all-append, all-map}
 use Rattle.table.proofs.State.{record-meaning, length-sections, used-bytes}
@@ -98,7 +98,7 @@ below-all s (suc i) k h l =
 pub record-in : (s : List ℕ) (i a : ℕ) → T (sound s i) → a < i → recordAt s (a * 64) ≡ recordOf (sectionIn s a)
 record-in s i a h l = sym (record-meaning (recordAt s (a * 64)) (sound-record-at s i a h l))
 
--- its sections written over a sound table change no byte
+-- its sections written overflow a sound table change no byte
 pub written-self : (s : List ℕ) (g : ℕ) → T (sound s g) → AreBytes s → written (sections s g) s ≡ s
 written-self s g t h =
     let n : 64 * length (sections s g) ≡ g * 64 = omega (arith, length-sections s g) in
@@ -109,14 +109,14 @@ unfolding anyOf
 any-append f [] x = or-false (f x)
 any-append f (y ∷ ys) x = ap (λ (b : Bool). f y || b) (any-append f ys x) ∙ sym (or-assoc (f y) (anyOf f ys) (f x))
 
--- no section of a table is overfull: its count has 32 bits
-pub none-overfull : (s : List ℕ) (i : ℕ) → i * 64 ≤ length s → AreBytes s → anyOf overfull (sections s i) ≡ false
+-- no section of a table is overflows: its count has 32 bits
+pub none-overflow : (s : List ℕ) (i : ℕ) → i * 64 ≤ length s → AreBytes s → anyOf overflows (sections s i) ≡ false
 unfolding cells anyOf
-none-overfull s zero l h = refl
-none-overfull s (suc i) l h =
-    ap (anyOf overfull) (sections-more s i l)
-    ∙ any-append overfull (sections s i) (sectionIn s i)
-    ∙ ap₂ _||_ (none-overfull s i (omega arith) h) (le-ltb 4294967295 (countAt s i) (omega (arith, numberAt-lt 4 (i * 64 + 4) s h)))
+none-overflow s zero l h = refl
+none-overflow s (suc i) l h =
+    ap (anyOf overflows) (sections-more s i l)
+    ∙ any-append overflows (sections s i) (sectionIn s i)
+    ∙ ap₂ _||_ (none-overflow s i (omega arith) h) (le-ltb 4294967295 (countAt s i) (omega (arith, numberAt-lt 4 (i * 64 + 4) s h)))
 
 -- ---- tables of as many bytes whose used bytes agree
 module _ (s t : List ℕ) (i : ℕ) (same : take (i * 64) s ≡ take (i * 64) t) (long : length s ≡ length t) (fits : i * 64 ≤ length s) where

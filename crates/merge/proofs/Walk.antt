@@ -13,7 +13,7 @@ use Rattle.record.specs.Sound.{sound}
 use Rattle.record.specs.Section.{Section, sections}
 use Rattle.record.proofs.Sound.{sound-parts}
 use Rattle.table.specs.Combine.{combine, merged}
-use Rattle.table.specs.Calls.{overfull, mergeSections}
+use Rattle.table.specs.Calls.{overflows, mergeSections}
 use Rattle.lists.specs.Lists.{anyOf}
 use Rattle.merge.specs.declared.Ends.{Ends}
 use Rattle.merge.specs.Steps.{keyAt, countAt, sectionIn, Within, lastSection, Back}
@@ -99,8 +99,8 @@ module _ {s s′ : List ℕ} {i j : ℕ} {e : Ends} (b : Back s i s′ j e) wher
   pub length-back : length (mergeSections s i s′ j) ≡ length (mergeSections s (e .i) s′ (e .j)) + 1
   length-back = ap length (b .last) ∙ length-append (mergeSections s (e .i) s′ (e .j)) (lastSection s i s′ j e ∷ [])
 
-  pub any-back : anyOf overfull (mergeSections s i s′ j) ≡ (anyOf overfull (mergeSections s (e .i) s′ (e .j)) || overfull (lastSection s i s′ j e))
-  any-back = ap (anyOf overfull) (b .last) ∙ any-append overfull (mergeSections s (e .i) s′ (e .j)) (lastSection s i s′ j e)
+  pub any-back : anyOf overflows (mergeSections s i s′ j) ≡ (anyOf overflows (mergeSections s (e .i) s′ (e .j)) || overflows (lastSection s i s′ j e))
+  any-back = ap (anyOf overflows) (b .last) ∙ any-append overflows (mergeSections s (e .i) s′ (e .j)) (lastSection s i s′ j e)
 
 -- a merge of nothing
 pub merge-none : (s s′ : List ℕ) (i j : ℕ) → j ≤ 0 → mergeSections s i s′ j ≡ sections s i

@@ -14,7 +14,7 @@ use Rattle.record.specs.Sound.{sound}
 use Rattle.record.specs.Section.{Section, sections, recordOf, written}
 use Rattle.lists.proofs.Booleans.{or-false}
 use Rattle.table.specs.Combine.{merged}
-use Rattle.table.specs.Calls.{overfull, mergeSections}
+use Rattle.table.specs.Calls.{overflows, mergeSections}
 use Rattle.lists.specs.Lists.{anyOf}
 use Rattle.table.proofs.Lookup.{merged-length}
 use Rattle.merge.specs.declared.Ends.{Ends}
@@ -29,7 +29,7 @@ pub record Left (s₀ : List ℕ) (g : ℕ) (s′ : List ℕ) (g′ : ℕ) (s : 
   pub sound₂ : T (sound s′ j)
   pub groups : k ≡ length (mergeSections s i s′ j)
   pub fits : k * 64 ≤ length s
-  pub few : anyOf overfull (mergeSections s i s′ j) ≡ false
+  pub few : anyOf overflows (mergeSections s i s′ j) ≡ false
   pub rest : written (mergeSections s i s′ j) s ≡ written (mergeSections s₀ g s′ g′) s₀
   pub long : length s ≡ length s₀
   pub bytes : AreBytes s
@@ -43,8 +43,8 @@ module _ {s₀ : List ℕ} {g : ℕ} {s′ : List ℕ} {g′ : ℕ} {s : List �
     pub room : k ≡ length (mergeSections s (e .i) s′ (e .j)) + 1
     room = t .groups ∙ length-back b
 
-    pub few-last : overfull (lastSection s i s′ j e) ≡ false
-    few-last = or-false (anyOf overfull (mergeSections s (e .i) s′ (e .j))) (overfull (lastSection s i s′ j e)) (sym (any-back b) ∙ t .few) .1
+    pub few-last : overflows (lastSection s i s′ j e) ≡ false
+    few-last = or-false (anyOf overflows (mergeSections s (e .i) s′ (e .j))) (overflows (lastSection s i s′ j e)) (sym (any-back b) ∙ t .few) .1
 
     -- one section more
     module _ {r : Record} {s₁ : List ℕ} (p : r ≡ recordOf (lastSection s i s′ j e)) (q : s₁ ≡ sets s ((k - 1) * 64) (encode r)) where
@@ -75,7 +75,7 @@ module _ {s₀ : List ℕ} {g : ℕ} {s′ : List ℕ} {g′ : ℕ} {s : List �
         sound₂ = b .sound₂;
         groups = n ∙ ap length (sym still);
         fits = omega (arith, long₁, t .fits);
-        few = ap (anyOf overfull) still ∙ or-false (anyOf overfull (mergeSections s (e .i) s′ (e .j))) (overfull (lastSection s i s′ j e)) (sym (any-back b) ∙ t .few) .0;
+        few = ap (anyOf overflows) still ∙ or-false (anyOf overflows (mergeSections s (e .i) s′ (e .j))) (overflows (lastSection s i s′ j e)) (sym (any-back b) ∙ t .few) .0;
         rest =
             ap₂ written still put
             ∙ written-more (mergeSections s (e .i) s′ (e .j)) (lastSection s i s′ j e) s (omega (arith, room, t .fits))

@@ -6,7 +6,7 @@ ghost use lib.Dec.{T};
 ghost use lib.ListN.{length};
 ghost use Rattle.record.specs.Sound.{sound};
 ghost use Rattle.record.specs.Section.{recordOf, written};
-ghost use Rattle.table.specs.Calls.{overfull, mergeSections, mergeOutcome, mergeLeaves};
+ghost use Rattle.table.specs.Calls.{overflows, mergeSections, mergeOutcome, mergeLeaves};
 ghost use Rattle.lists.specs.Lists.{anyOf};
 ghost use Rattle.table.specs.Answer.{tableAnswer};
 ghost use Rattle.merge.specs.Steps.{countAt, Within, lastSection, Back};
@@ -68,7 +68,7 @@ fn last_record(first: &[u8], i: usize, second: &[u8], j: usize, e: Ends) -> Reco
     requires { ⌜ Within (now first) i (now second) j e ⌝ }
     requires { ⌜ T (sound (now first) i) ⌝ }
     requires { ⌜ T (sound (now second) j) ⌝ }
-    requires { ⌜ overfull (lastSection (now first) i (now second) j e) ≡ false ⌝ }
+    requires { ⌜ overflows (lastSection (now first) i (now second) j e) ≡ false ⌝ }
     ensures { λ r. ⌜ r ≡ recordOf (lastSection (now (first .entry)) i (now (second .entry)) j e) ⌝ }
 {
     if e.i == i {
@@ -83,23 +83,23 @@ fn last_record(first: &[u8], i: usize, second: &[u8], j: usize, e: Ends) -> Reco
 // How many sections two tables have together, and whether one of them has more rows than its count can say.
 pub struct Union {
     pub groups: usize,
-    pub over: bool,
+    pub overflow: bool,
 }
 
 fn united(first: &[u8], g1: usize, second: &[u8], g2: usize) -> Union
     requires { ⌜ T (sound (now first) g1) ⌝ }
     requires { ⌜ T (sound (now second) g2) ⌝ }
     ensures { λ u. ⌜ u .groups ≡ length (mergeSections (now (first .entry)) g1 (now (second .entry)) g2) ⌝ }
-    ensures { λ u. ⌜ u .over ≡ anyOf overfull (mergeSections (now (first .entry)) g1 (now (second .entry)) g2) ⌝ }
+    ensures { λ u. ⌜ u .overflow ≡ anyOf overflows (mergeSections (now (first .entry)) g1 (now (second .entry)) g2) ⌝ }
 {
     let mut i = g1;
     let mut j = g2;
     let mut n = 0;
-    let mut over = false;
+    let mut overflow = false;
     while 0 < j {
         let e = previous(first, i, second, j);
         if 4294967295 < last_count(first, i, second, j, e) {
-            over = true;
+            overflow = true;
         }
         i = e.i;
         j = e.j;
@@ -107,7 +107,7 @@ fn united(first: &[u8], g1: usize, second: &[u8], g2: usize) -> Union
     }
     Union {
         groups: n + i,
-        over,
+        overflow,
     }
 }
 
@@ -115,7 +115,7 @@ fn united(first: &[u8], g1: usize, second: &[u8], g2: usize) -> Union
 fn write_back(first: &mut [u8], g1: usize, second: &[u8], g2: usize, groups: usize)
     requires { ⌜ T (sound (now first) g1) ⌝ }
     requires { ⌜ T (sound (now second) g2) ⌝ }
-    requires { ⌜ anyOf overfull (mergeSections (now first) g1 (now second) g2) ≡ false ⌝ }
+    requires { ⌜ anyOf overflows (mergeSections (now first) g1 (now second) g2) ≡ false ⌝ }
     requires { ⌜ groups ≡ length (mergeSections (now first) g1 (now second) g2) ⌝ }
     requires { ⌜ groups * 64 ≤ length (now first) ⌝ }
     ensures { λ _. ⌜ now (first .exit) ≡ written (mergeSections (now (first .entry)) g1 (now (second .entry)) g2) (now (first .entry)) ⌝ }
@@ -144,7 +144,7 @@ fn decide(first: &[u8], g1: usize, second: &[u8], g2: usize) -> TableAnswer
         return TableAnswer::Refused(Refusal::TableNotSound);
     }
     let u = united(first, g1, second, g2);
-    if u.over {
+    if u.overflow {
         return TableAnswer::Refused(Refusal::TooManyRows);
     }
     let groups = u.groups;

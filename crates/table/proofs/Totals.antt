@@ -73,21 +73,21 @@ module _ (a b : Record) (e : a .top ≡ b .top) (p : SoundParts a) (q : SoundPar
   empty-both : (x y : Held) → Empty x → Empty y → totalOf x +ℤ totalOf y ≡ pos 0
   empty-both x y f g = rw (f .0, f .1, g .0, g .1)
 
-  pub even-high : below both t 0 ≡ totalOf (a .high) +ℤ totalOf (b .high)
-  even-high =
+  pub same-top-high : below both t 0 ≡ totalOf (a .high) +ℤ totalOf (b .high)
+  same-top-high =
       rw (le-leb 0 t (omega arith), sub-zero)
       (ap₂ _+ℤ_ (level-high (meaning a)) (ap (levelOf (meaning b)) e ∙ level-high (meaning b)))
 
-  pub even-middle : below both t 1 ≡ totalOf (a .middle) +ℤ totalOf (b .middle)
-  even-middle =
+  pub same-top-middle : below both t 1 ≡ totalOf (a .middle) +ℤ totalOf (b .middle)
+  same-top-middle =
       elim (decLe 1 t) [
         | yes l ↦ rw (le-leb 1 t l)
             (ap₂ _+ℤ_ (level-middle (meaning a) l) (ap (λ (n : ℕ). levelOf (meaning b) (n - 1)) e ∙ level-middle (meaning b) (omega arith)))
         | no l ↦ rw (lt-leb 1 t (omega arith)) (sym (empty-both (a .middle) (b .middle) (p .second (omega arith)) (q .second (omega arith))))
       ]
 
-  pub even-low : below both t 2 ≡ totalOf (a .low) +ℤ totalOf (b .low)
-  even-low =
+  pub same-top-low : below both t 2 ≡ totalOf (a .low) +ℤ totalOf (b .low)
+  same-top-low =
       elim (decLe 2 t) [
         | yes l ↦ rw (le-leb 2 t l)
             (ap₂ _+ℤ_ (level-low (meaning a) l) (ap (λ (n : ℕ). levelOf (meaning b) (n - 2)) e ∙ level-low (meaning b) (omega arith)))

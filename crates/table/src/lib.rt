@@ -104,7 +104,7 @@ fn larger(x: u32, y: u32) -> u32
 }
 
 // Two records of one section and one top as one: their levels stand side by side.
-pub fn combined_even(a: Record, b: Record) -> Record
+pub fn combined_same_top(a: Record, b: Record) -> Record
     requires { ⌜ T (soundRecord a) ⌝ }
     requires { ⌜ T (soundRecord b) ⌝ }
     requires { ⌜ (a .top ≡ b .top) × (a .count + b .count < 2 ^ 32) ⌝ }
@@ -149,7 +149,7 @@ pub fn combined(a: Record, b: Record) -> Record
     ensures { λ r. ⌜ r ≡ recordOf (combine (meaning a) (meaning b)) ⌝ }
 {
     if a.top == b.top {
-        return combined_even(a, b);
+        return combined_same_top(a, b);
     }
     // Copies of their own, so that records of one top stay in registers and only these are stored for the call.
     let x = a;

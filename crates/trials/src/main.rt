@@ -80,7 +80,7 @@ fn fill_ones(keys: &mut [u8], values: &mut [u8], n: usize)
 }
 
 // A number, in hexadecimal.
-fn say(x: u64) {
+fn print(x: u64) {
     io::print_hex(1, x, 1);
     io::write_all(1, b" ");
 }
@@ -158,12 +158,12 @@ fn call(t: &mut [u8], g: u64, other: &[u8], h: u64, x: u64, kind: u64) -> i64 {
 // The same, with its answer said; the group count after it.
 fn step(t: &mut [u8], g: u64, other: &[u8], h: u64, x: u64, kind: u64) -> u64 {
     let r = call(t, g, other, h, x, kind);
-    say(word(r));
+    print(word(r));
     groups_after(r, g)
 }
 
 // Section, answer, row count, sum and mill figure; nothing of an absent section below 16.
-fn say_section(t: &[u8], g: u64, key: u32) {
+fn print_section(t: &[u8], g: u64, key: u32) {
     let mut count: u64 = 9;
     let mut bits: u64 = 9;
     let mut figure: i64 = 9;
@@ -171,24 +171,24 @@ fn say_section(t: &[u8], g: u64, key: u32) {
     if r == -13 && key < 16 {
         return;
     }
-    say(key as u64);
-    say(word(r));
-    say(count);
+    print(key as u64);
+    print(word(r));
+    print(count);
     exports::girth_sum(t, g, key, &mut bits);
-    say(bits);
+    print(bits);
     exports::girth_figure(t, g, key, &mut figure);
-    say(word(figure));
+    print(word(figure));
     end_line();
 }
 
 // Group count and digest of a table, then its sections.
-fn say_table(t: &[u8], g: u64) {
-    say(g);
-    say(digest(t));
+fn print_table(t: &[u8], g: u64) {
+    print(g);
+    print(digest(t));
     end_line();
     let mut key: u32 = 0;
     while key < 17 {
-        say_section(t, g, key);
+        print_section(t, g, key);
         key += 1;
     }
 }
@@ -207,8 +207,8 @@ fn run_calls(a: &mut [u8], b: &mut [u8], state: u64, kind: u64) {
         i += 1;
     }
     end_line();
-    say_table(a, g);
-    say_table(b, h);
+    print_table(a, g);
+    print_table(b, h);
 }
 
 // A set of calls on two tables that start empty.
@@ -225,16 +225,16 @@ fn run_merges(a: &mut [u8], b: &mut [u8]) {
     let mut i: u32 = 0;
     while i < 24 {
         let r = exports::girth_merge(b, h, a, g);
-        say(word(r));
+        print(word(r));
         h = groups_after(r, h);
         let q = exports::girth_merge(a, g, b, h);
-        say(word(q));
+        print(word(q));
         g = groups_after(q, g);
         i += 1;
     }
     end_line();
-    say_table(a, g);
-    say_table(b, h);
+    print_table(a, g);
+    print_table(b, h);
 }
 
 fn run_doubling() {
@@ -244,11 +244,11 @@ fn run_doubling() {
 }
 
 // The first 64 bytes of a table, as words.
-fn say_record(t: &[u8]) {
+fn print_record(t: &[u8]) {
     let mut i: usize = 0;
     while i < 8 {
         if i * 8 + 8 <= t.len() {
-            say(codec::u64_at(t, i * 8));
+            print(codec::u64_at(t, i * 8));
         }
         i += 1;
     }
@@ -263,9 +263,9 @@ fn add_often(t: &mut [u8], work: &mut [u8], keys: &[u8], values: &[u8]) {
         g = groups_after(exports::girth_add(t, g, keys, values, work), g);
         i += 1;
     }
-    say_record(t);
+    print_record(t);
     exports::girth_add(t, g, part(keys, 4), part(values, 8), work);
-    say_record(t);
+    print_record(t);
 }
 
 // 65,535 rows of 1, then one more.
@@ -279,13 +279,13 @@ fn run_ones() {
 }
 
 // What the reader says of a file.
-fn say_file(file: &[u8]) {
+fn print_file(file: &[u8]) {
     let mut keys: u64 = 9;
     let mut values: u64 = 9;
     let n = exports::girth_read(file, &mut keys, &mut values);
-    say(word(n));
-    say(keys);
-    say(values);
+    print(word(n));
+    print(keys);
+    print(values);
     end_line();
 }
 
@@ -296,14 +296,14 @@ fn run_file(x: u64) {
     codec::put_u32(&mut file, 52, (14 + (x >> 8) % 64) as u32);
     codec::put_u32(&mut file, 56, (14 + (x >> 16) % 64) as u32);
     codec::put_u32(&mut file, 60, (0x5453414C - (x >> 24) % 2) as u32);
-    say_file(&file);
+    print_file(&file);
 }
 
 fn run_files() {
     let long = [0u8; 65537];
-    say_file(&long);
-    say_file(part(&long, 15));
-    say_file(part(&long, 16));
+    print_file(&long);
+    print_file(part(&long, 15));
+    print_file(part(&long, 16));
     let mut x: u64 = 0xDEADBEEFCAFE;
     let mut i: u32 = 0;
     while i < 400 {

@@ -13,12 +13,12 @@ use lib.Signed.{mag}
 use lib.Ieee.Nearest.{closest}
 use Rattle.level.specs.Double.{signed, negative, significand}
 use Rattle.level.specs.Level.{top, contribution, below}
-use Rattle.level.specs.Cut.{shiftOf, restOf, overOf, turn}
+use Rattle.level.specs.Cut.{shiftOf, restOf, roundedUp, flippedIf}
 use Rattle.level.proofs.Near.{closest-self, closest-step}
 use Rattle.level.proofs.Double.{significand-lt}
 use Rattle.level.proofs.Given.{rest-half}
 use Rattle.level.proofs.Top.{top-le, top-place}
-use Rattle.level.proofs.Ladder.{scaled, row-scaled}
+use Rattle.level.proofs.Descent.{scaled, row-scaled}
 use Rattle.level.proofs.contributions_of.Statement.{statement}
 use Rattle.level.proofs.contributions_of.Tie as tie
 
@@ -42,11 +42,11 @@ lower-two-requires c κs =
     let d = c .before .before .before .shift .result in
     omega (arith, rest-half (c .before .digits .result) (2 ^ d) (pow-pos d), top-place (c .before .before .before .before .before .args .bits))
 
-turned-requires : tie.Need-turned-requires
-turned-requires c κs = search needs
+flipped-if-requires : tie.Need-flipped-if-requires
+flipped-if-requires c κs = search needs
 
-turned-requires-2 : tie.Need-turned-requires-2
-turned-requires-2 c κs = search needs
+flipped-if-requires-2 : tie.Need-flipped-if-requires-2
+flipped-if-requires-2 c κs = search needs
 
 cast-t10 : tie.Need-cast-t10
 cast-t10 c = omega (arith, top-le (c .before .before .before .before .before .before .before .before .args .bits))
@@ -73,9 +73,9 @@ with-sign-requires-3 c κs =
 
 -- the contributions, from what the calls ensure: x the significand, d the shift, g the sign; n, r, o the first cut; m, p, l the lower two
 three : (b x d n r m l : ℕ) (g o s p q : Bool) → x ≡ significand b → d ≡ shiftOf b → g ≡ negative b
-    → (n ≡ closest x (2 ^ d)) × (r ≡ restOf x (2 ^ d)) × (o ≡ overOf x (2 ^ d))
-    → (m ≡ closest (r * 2 ^ 40) (2 ^ d)) × (p ≡ overOf (r * 2 ^ 40) (2 ^ d)) × (l ≡ closest (restOf (r * 2 ^ 40) (2 ^ d) * 2 ^ 40) (2 ^ d))
-    → s ≡ turn g o → q ≡ turn s p
+    → (n ≡ closest x (2 ^ d)) × (r ≡ restOf x (2 ^ d)) × (o ≡ roundedUp x (2 ^ d))
+    → (m ≡ closest (r * 2 ^ 40) (2 ^ d)) × (p ≡ roundedUp (r * 2 ^ 40) (2 ^ d)) × (l ≡ closest (restOf (r * 2 ^ 40) (2 ^ d) * 2 ^ 40) (2 ^ d))
+    → s ≡ flippedIf g o → q ≡ flippedIf s p
     → (signed g n ≡ below (contribution b) (top b) 0) × (signed s m ≡ below (contribution b) (top b) 1) × (signed q l ≡ below (contribution b) (top b) 2)
 unfolding scaled
 three b x d n r m l g o s p q ex ed eg ec el es eq =
@@ -93,13 +93,13 @@ returns c =
     let e = c .before .before .before .before .before .before in
     let f = e .cut-at in
     let l = c .before .before .before .before .before .lower-two in
-    let s = c .before .before .before .before .turned in
-    let q = c .before .before .before .turned2 in
+    let s = c .before .before .before .before .flipped-if in
+    let q = c .before .before .before .flipped-if2 in
     let x = e .before .digits in
     let g = e .before .before .is-negative in
     let d = e .before .before .before .shift in
     let t = three (e .before .before .before .before .before .args .bits) (x .result) (d .result) (f .result .units) (f .result .rest) (l .result .middle) (l .result .low)
-    (g .result) (f .result .over) (s .result) (l .result .over) (q .result) (x .ensures) (d .ensures) (g .ensures) (f .ensures) (l .ensures) (s .ensures) (q .ensures) in
+    (g .result) (f .result .«rounded_up») (s .result) (l .result .«rounded_up») (q .result) (x .ensures) (d .ensures) (g .ensures) (f .ensures) (l .ensures) (s .ensures) (q .ensures) in
     let high = back _ (c .before .before .with-sign .ok) ∙ c .before .before .with-sign .ensures ∙ t .0 in
     let middle = back _ (c .before .with-sign2 .ok) ∙ c .before .with-sign2 .ensures ∙ t .1 in
     let low = back _ (c .with-sign3 .ok) ∙ c .with-sign3 .ensures ∙ t .2 in
@@ -115,8 +115,8 @@ contributions-of-spec =
     digits-requires
     cut-at-requires
     lower-two-requires
-    turned-requires
-    turned-requires-2
+    flipped-if-requires
+    flipped-if-requires-2
     cast-t10
     with-sign-requires
     with-sign-requires-2

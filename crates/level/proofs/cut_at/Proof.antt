@@ -6,7 +6,7 @@ use native.Mathlib.Omega.{arith}
 use borrow.Author.Tests.{lt-ltb, le-ltb}
 use mathlib.Core.Bool.{true, false}
 use lib.Ieee.Nearest.{closest}
-use Rattle.level.specs.Cut.{restOf, overOf}
+use Rattle.level.specs.Cut.{restOf, roundedUp}
 use Rattle.level.proofs.Near.{closest-fits}
 use borrow.Author.Needs.{needs}
 use Rattle.level.proofs.cut_at.Statement.{statement}
@@ -26,10 +26,10 @@ module _ (n x d : ℕ) (e : n ≡ closest x (2 ^ d)) (h : (x < 2 ^ 53) × (d < 5
   whole : n * 2 ^ d % 2 ^ 64 ≡ closest x (2 ^ d) * 2 ^ d
   whole = ap (λ (m : ℕ). m * 2 ^ d % 2 ^ 64) e ∙ mod-eq-of-lt (closest-fits x d (h .0) (h .1))
 
-  more : x < n * 2 ^ d % 2 ^ 64 → (n ≡ closest x (2 ^ d)) × (n * 2 ^ d % 2 ^ 64 - x ≡ restOf x (2 ^ d)) × (true ≡ overOf x (2 ^ d))
+  more : x < n * 2 ^ d % 2 ^ 64 → (n ≡ closest x (2 ^ d)) × (n * 2 ^ d % 2 ^ 64 - x ≡ restOf x (2 ^ d)) × (true ≡ roundedUp x (2 ^ d))
   more l = (e, omega (arith, whole), sym (lt-ltb _ _ (rw whole at l)))
 
-  less : n * 2 ^ d % 2 ^ 64 ≤ x → (n ≡ closest x (2 ^ d)) × (x - n * 2 ^ d % 2 ^ 64 ≡ restOf x (2 ^ d)) × (false ≡ overOf x (2 ^ d))
+  less : n * 2 ^ d % 2 ^ 64 ≤ x → (n ≡ closest x (2 ^ d)) × (x - n * 2 ^ d % 2 ^ 64 ≡ restOf x (2 ^ d)) × (false ≡ roundedUp x (2 ^ d))
   less l = (e, omega (arith, whole), sym (le-ltb _ _ (rw whole at l)))
 
 returns : tie.Need-returns

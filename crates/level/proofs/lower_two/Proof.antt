@@ -8,10 +8,10 @@ use borrow.Author.Needs.{needs}
 use borrow.Author.Tests.{le-ltb}
 use lib.Pow.{pow-pos, pow-mono}
 use lib.Ieee.Nearest.{closest}
-use Rattle.level.specs.Cut.{restOf, overOf}
+use Rattle.level.specs.Cut.{restOf, roundedUp}
 use Rattle.level.proofs.Near.{closest-small, closest-whole, pow-sum}
 use Rattle.level.proofs.Given.{rest-half}
-use Rattle.level.proofs.Ladder.{rest-whole, units-scale, over-scale, rest-scale}
+use Rattle.level.proofs.Descent.{rest-whole, units-scale, direction-scale, rest-scale}
 use Rattle.level.proofs.lower_two.Statement.{statement}
 use Rattle.level.proofs.lower_two.Tie as tie
 
@@ -21,7 +21,7 @@ shifted x e f h s = mod-eq-of-lt (omega (arith, mul-le-mul-right (2 ^ f) h))
 
 module _ (r d : ℕ) (h : (r * 2 ≤ 2 ^ d) × (d < 54)) where
   short : d ≤ 40
-      → (r * 2 ^ (40 - d) % 2 ^ 64 ≡ closest (r * 2 ^ 40) (2 ^ d)) × (false ≡ overOf (r * 2 ^ 40) (2 ^ d)) × (0 ≡ closest (restOf (r * 2 ^ 40) (2 ^ d) * 2 ^ 40) (2 ^ d))
+      → (r * 2 ^ (40 - d) % 2 ^ 64 ≡ closest (r * 2 ^ 40) (2 ^ d)) × (false ≡ roundedUp (r * 2 ^ 40) (2 ^ d)) × (0 ≡ closest (restOf (r * 2 ^ 40) (2 ^ d) * 2 ^ 40) (2 ^ d))
   short l =
       let k = r * 2 ^ (40 - d) in
       let x : r * 2 ^ 40 ≡ k * 2 ^ d = sym (mul-assoc r (2 ^ (40 - d)) (2 ^ d) ∙ ap (λ (w : ℕ). r * w) (pow-sum (40 - d) d 40 (omega arith))) in
@@ -32,8 +32,8 @@ module _ (r d : ℕ) (h : (r * 2 ≤ 2 ^ d) × (d < 54)) where
         sym (closest-small (restOf (r * 2 ^ 40) (2 ^ d) * 2 ^ 40) (2 ^ d) (pow-pos d) (omega arith)),
       )
 
-  long : 40 < d → (n m : ℕ) (o : Bool) → (n ≡ closest r (2 ^ (d - 40))) × (m ≡ restOf r (2 ^ (d - 40))) × (o ≡ overOf r (2 ^ (d - 40)))
-      → (n ≡ closest (r * 2 ^ 40) (2 ^ d)) × (o ≡ overOf (r * 2 ^ 40) (2 ^ d)) × (m * 2 ^ (80 - d) % 2 ^ 64 ≡ closest (restOf (r * 2 ^ 40) (2 ^ d) * 2 ^ 40) (2 ^ d))
+  long : 40 < d → (n m : ℕ) (o : Bool) → (n ≡ closest r (2 ^ (d - 40))) × (m ≡ restOf r (2 ^ (d - 40))) × (o ≡ roundedUp r (2 ^ (d - 40)))
+      → (n ≡ closest (r * 2 ^ 40) (2 ^ d)) × (o ≡ roundedUp (r * 2 ^ 40) (2 ^ d)) × (m * 2 ^ (80 - d) % 2 ^ 64 ≡ closest (restOf (r * 2 ^ 40) (2 ^ d) * 2 ^ 40) (2 ^ d))
   long l n m o e =
       let v = 2 ^ (d - 40) in
       let q = pow-pos (d - 40) in
@@ -41,7 +41,7 @@ module _ (r d : ℕ) (h : (r * 2 ≤ 2 ^ d) × (d < 54)) where
       let t : restOf (r * 2 ^ 40) (2 ^ d) ≡ m * 2 ^ 40 = rw (← s, e .1) (rest-scale r v (2 ^ 40) q (pow-pos 40)) in
       let k : m * 2 ^ (80 - d) * 2 ^ d ≡ m * 2 ^ 80 = mul-assoc m (2 ^ (80 - d)) (2 ^ d) ∙ ap (λ (w : ℕ). m * w) (pow-sum (80 - d) d 80 (omega arith)) in (
         rw (e .0, ← s) (sym (units-scale r v (2 ^ 40) q (pow-pos 40))),
-        rw (e .2, ← s) (sym (over-scale r v (2 ^ 40) q (pow-pos 40))),
+        rw (e .2, ← s) (sym (direction-scale r v (2 ^ 40) q (pow-pos 40))),
         shifted m (d - 40) (80 - d) (rw (e .1) (rest-half r v q)) (pow-sum (d - 40) (80 - d) 40 (omega arith))
             ∙ sym (closest-whole (m * 2 ^ (80 - d)) (2 ^ d) (pow-pos d)) ∙ ap (λ (y : ℕ). closest y (2 ^ d)) (omega arith),
       )
@@ -68,7 +68,7 @@ returns-2 : tie.Need-returns-2
 returns-2 c =
     let a = c .before .before .before .args in
     let r = c .before .cut-at .result in
-    long (a .rest) (a .d) (c .before .before .before .pre) (c .before .before .if1 .left) (r .units) (r .rest) (r .over) (c .before .cut-at .ensures)
+    long (a .rest) (a .d) (c .before .before .before .pre) (c .before .before .if1 .left) (r .units) (r .rest) (r .«rounded_up») (c .before .cut-at .ensures)
 
 pub lower-two-spec : {M : Type 1} → statement M
 lower-two-spec =

@@ -10,44 +10,44 @@ use lib.Dec.{T}
 use lib.ListN.{length}
 use Rattle.record.specs.Sound.{sound}
 use Rattle.record.proofs.Sound.{sound-parts}
-use Rattle.table.specs.Calls.{overfull, mergeSections}
+use Rattle.table.specs.Calls.{overflows, mergeSections}
 use Rattle.lists.specs.Lists.{anyOf}
 use Rattle.merge.specs.declared.Ends.{Ends}
 use Rattle.merge.specs.Steps.{lastSection, Back}
 use Rattle.table.proofs.State.{length-sections}
-use Rattle.merge.proofs.State.{none-overfull}
+use Rattle.merge.proofs.State.{none-overflow}
 use Rattle.merge.proofs.Walk.{length-back, any-back, merge-none}
 use Rattle.merge.proofs.united.Statement.{statement}
 use Rattle.merge.proofs.united.Tie as tie
 
 abbrev Inv-loop : tie.InvT-loop
-Inv-loop first g1 second g2 i₀ j₀ n₀ over₀ i j n over =
+Inv-loop first g1 second g2 i₀ j₀ n₀ over₀ i j n overflow =
     T (sound first i) × T (sound second j) × (n + i + j ≤ 2048)
     × (n + length (mergeSections first i second j) ≡ length (mergeSections first g1 second g2))
-    × ((over || anyOf overfull (mergeSections first i second j)) ≡ anyOf overfull (mergeSections first g1 second g2))
+    × ((overflow || anyOf overflows (mergeSections first i second j)) ≡ anyOf overflows (mergeSections first g1 second g2))
 
 abbrev μ-loop : tie.MeasureT-loop
-μ-loop first g1 second g2 i₀ j₀ n₀ over₀ i j n over = i + j
+μ-loop first g1 second g2 i₀ j₀ n₀ over₀ i j n overflow = i + j
 
 -- what one section more says of a section with too many rows; `rest` is what the sections before it say
-module _ {s s′ : List ℕ} {i j : ℕ} {e : Ends} (b : Back s i s′ j e) (over : Bool) {r : ℕ} (q : r ≡ lastSection s i s′ j e .count) {over′ all : Bool} where
-  taken : 4294967295 < r → over′ ≡ true → (over || anyOf overfull (mergeSections s i s′ j)) ≡ all
-      → (over′ || anyOf overfull (mergeSections s (e .i) s′ (e .j))) ≡ all
+module _ {s s′ : List ℕ} {i j : ℕ} {e : Ends} (b : Back s i s′ j e) (overflow : Bool) {r : ℕ} (q : r ≡ lastSection s i s′ j e .count) {over′ all : Bool} where
+  taken : 4294967295 < r → over′ ≡ true → (overflow || anyOf overflows (mergeSections s i s′ j)) ≡ all
+      → (over′ || anyOf overflows (mergeSections s (e .i) s′ (e .j))) ≡ all
   taken h w v =
-      let rest : Bool = anyOf overfull (mergeSections s (e .i) s′ (e .j)) in
+      let rest : Bool = anyOf overflows (mergeSections s (e .i) s′ (e .j)) in
       let x = lt-ltb 4294967295 (lastSection s i s′ j e .count) (omega (arith, q)) in
       ap (λ (z : Bool). z || rest) w
-      ∙ sym (or-true over)
-      ∙ ap (λ (z : Bool). over || z) (sym (any-back b ∙ ap (λ (z : Bool). rest || z) x ∙ or-true rest))
+      ∙ sym (or-true overflow)
+      ∙ ap (λ (z : Bool). overflow || z) (sym (any-back b ∙ ap (λ (z : Bool). rest || z) x ∙ or-true rest))
       ∙ v
 
-  passed : r ≤ 4294967295 → over′ ≡ over → (over || anyOf overfull (mergeSections s i s′ j)) ≡ all
-      → (over′ || anyOf overfull (mergeSections s (e .i) s′ (e .j))) ≡ all
+  passed : r ≤ 4294967295 → over′ ≡ overflow → (overflow || anyOf overflows (mergeSections s i s′ j)) ≡ all
+      → (over′ || anyOf overflows (mergeSections s (e .i) s′ (e .j))) ≡ all
   passed h w v =
-      let rest : Bool = anyOf overfull (mergeSections s (e .i) s′ (e .j)) in
+      let rest : Bool = anyOf overflows (mergeSections s (e .i) s′ (e .j)) in
       let x = le-ltb 4294967295 (lastSection s i s′ j e .count) (omega (arith, q)) in
       ap (λ (z : Bool). z || rest) w
-      ∙ ap (λ (z : Bool). over || z) (sym (any-back b ∙ ap (λ (z : Bool). rest || z) x ∙ or-false rest))
+      ∙ ap (λ (z : Bool). overflow || z) (sym (any-back b ∙ ap (λ (z : Bool). rest || z) x ∙ or-false rest))
       ∙ v
 
 loop-holds : tie.Need-loop-holds Inv-loop μ-loop
@@ -78,7 +78,7 @@ loop-again c =
       b .sound₂,
       omega (arith, l .inv .2, b .within .fewer),
       omega (arith, l .inv .3, length-back b),
-      ⊎-elim (λ w. taken b (l .over) (c .before .last-count .ensures) (w .0 .taken) (w .1) (l .inv .4)) (λ w. passed b (l .over) (c .before .last-count .ensures) (w .0 .left) (w .1) (l .inv .4)) (c .if1 .came),
+      ⊎-elim (λ w. taken b (l .overflow) (c .before .last-count .ensures) (w .0 .taken) (w .1) (l .inv .4)) (λ w. passed b (l .overflow) (c .before .last-count .ensures) (w .0 .left) (w .1) (l .inv .4)) (c .if1 .came),
     )
 
 add-t12 : tie.Need-add-t12 Inv-loop μ-loop
@@ -92,7 +92,7 @@ returns c =
     let n = merge-none (a .first .now) (a .second .now) (l .i) (l .j) (c .loop-test .left) in
     let f = sound-parts (a .first .now) (l .i) (l .inv .0) .0 in (
       omega (arith, ap length n, length-sections (a .first .now) (l .i), l .inv .3),
-      sym (or-false (l .over)) ∙ ap (λ (x : Bool). l .over || x) (sym (ap (anyOf overfull) n ∙ none-overfull (a .first .now) (l .i) f (λ k. c .before .before .before .shared-slice-known .given k .fits))) ∙ l .inv .4,
+      sym (or-false (l .overflow)) ∙ ap (λ (x : Bool). l .overflow || x) (sym (ap (anyOf overflows) n ∙ none-overflow (a .first .now) (l .i) f (λ k. c .before .before .before .shared-slice-known .given k .fits))) ∙ l .inv .4,
     )
 
 pub united-spec : {M : Type 1} → statement M

@@ -20,9 +20,9 @@ abbrev μ-loop : tie.MeasureT-loop
 begin : (s : List ℕ) (at : ℕ) → take (at + 0) s ≡ take at s ++ []
 begin s at = rw (add-zero, append-nil)
 
-turn : (s₀ : List ℕ) (at : ℕ) (w s : List ℕ) (i : ℕ) → at + length w ≤ length s₀ → Inv-loop s₀ at w 0 s i → i < length w
+iteration : (s₀ : List ℕ) (at : ℕ) (w s : List ℕ) (i : ℕ) → at + length w ≤ length s₀ → Inv-loop s₀ at w 0 s i → i < length w
     → Inv-loop s₀ at w 0 (set s (at + i) (getD w i 0)) (i + 1)
-turn s₀ at w s i fits inv h =
+iteration s₀ at w s i fits inv h =
     let e : at + (i + 1) ≡ suc (at + i) = omega arith in
     let l : at + i < length s = omega arith in (
       omega arith,
@@ -56,7 +56,7 @@ loop-again : tie.Need-loop-again Inv-loop μ-loop
 loop-again c =
     let a = c .before .before .before .args in
     let l = c .before .before .loop in
-    turn (a .text .now) (a .at) (a .w .now) (l .text) (l .i) (omega arith) (l .inv) (c .before .loop-test .taken)
+    iteration (a .text .now) (a .at) (a .w .now) (l .text) (l .i) (omega arith) (l .inv) (c .before .loop-test .taken)
 
 add-result : tie.Need-add-result Inv-loop μ-loop
 add-result c = omega arith

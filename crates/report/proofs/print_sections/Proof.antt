@@ -28,9 +28,9 @@ Inv-loop text₀ at table g end₀ i₀ text end i =
 abbrev μ-loop : tie.MeasureT-loop
 μ-loop text₀ at table g end₀ i₀ text end i = g - i
 
-turn : (s₀ : List ℕ) (at : ℕ) (t : List ℕ) (g : ℕ) (s : List ℕ) (end i : ℕ) (s′ : List ℕ) (r : ℕ) → T (sound t g) → Inv-loop s₀ at t g at 0 s end i → i < g
+iteration : (s₀ : List ℕ) (at : ℕ) (t : List ℕ) (g : ℕ) (s : List ℕ) (end i : ℕ) (s′ : List ℕ) (r : ℕ) → T (sound t g) → Inv-loop s₀ at t g at 0 s end i → i < g
     → length s′ ≡ length s → Continued s end (lineText (meaning (recordAt t (i * 64)))) 58 s′ r → Inv-loop s₀ at t g at 0 s′ r (i + 1)
-turn s₀ at t g s end i s′ r ok inv h l p =
+iteration s₀ at t g s end i s′ r ok inv h l p =
     (omega arith, l ∙ inv .1, rw (add-one, more-lines t g i ok h) (longer (then (inv .2) p) (omega arith)))
 
 done : (s₀ : List ℕ) (at : ℕ) (t : List ℕ) (g : ℕ) (s : List ℕ) (end i : ℕ) → Inv-loop s₀ at t g at 0 s end i → i ≡ g
@@ -63,7 +63,7 @@ loop-again c =
     let a = s .args in
     let l = c .before .before .before .before .before .before .loop in
     let p = c .before .before .print-section in
-    turn (a .text .now) (a .at) (a .table .now) (a .g) (l .text) (l .end) (l .i) (p .last .0) (p .result) (s .pre .1) (l .inv) (omega arith) (p .kept .0) (rw (c .before .before .before .get .ensures) at (p .ensures))
+    iteration (a .text .now) (a .at) (a .table .now) (a .g) (l .text) (l .end) (l .i) (p .last .0) (p .result) (s .pre .1) (l .inv) (omega arith) (p .kept .0) (rw (c .before .before .before .get .ensures) at (p .ensures))
 
 same-length : tie.Need-same-length Inv-loop μ-loop
 same-length c = c .before .loop .inv .1

@@ -18,9 +18,9 @@ Inv-loop text₀ at n base w y₀ k₀ text y k =
 abbrev μ-loop : tie.MeasureT-loop
 μ-loop text₀ at n base w y₀ k₀ text y k = k
 
-turn : (s₀ : List ℕ) (at n b w : ℕ) (s : List ℕ) (y k : ℕ) → Inv-loop s₀ at n b w n w s y k → 0 < k
+iteration : (s₀ : List ℕ) (at n b w : ℕ) (s : List ℕ) (y k : ℕ) → Inv-loop s₀ at n b w n w s y k → 0 < k
     → Inv-loop s₀ at n b w n w (set s (at + (k - 1)) (digit (y % b))) (y / b) (k - 1)
-turn s₀ at n b w s y k inv h =
+iteration s₀ at n b w s y k inv h =
     let e : k ≡ suc (k - 1) = omega arith in
     (omega arith, length-set s (at + (k - 1)) (digit (y % b)) ∙ inv .1, last-first b (k - 1) y s at ∙ (rw e at (inv .2)))
 
@@ -56,7 +56,7 @@ loop-again : tie.Need-loop-again Inv-loop μ-loop
 loop-again c =
     let a = c .before .before .before .before .args in
     let l = c .before .before .loop in
-    rw (c .digit-byte .ensures) (turn (a .text .now) (a .at) (a .n) (a .base) (a .w) (l .text) (l .y) (l .k) (l .inv) (c .before .loop-test .taken))
+    rw (c .digit-byte .ensures) (iteration (a .text .now) (a .at) (a .n) (a .base) (a .w) (l .text) (l .y) (l .k) (l .inv) (c .before .loop-test .taken))
 
 same-length : tie.Need-same-length Inv-loop μ-loop
 same-length c = c .before .loop .inv .1

@@ -1,4 +1,4 @@
--- `report::width`: each turn takes one digit off.
+-- `report::width`: each iteration takes one digit off.
 use Prim.Native.Nat.{_+_, _≤_}
 use mathlib.Core.Path.{_≡_, refl}
 use native.Mathlib.Omega.{arith}

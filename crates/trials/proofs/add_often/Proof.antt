@@ -29,8 +29,8 @@ loop-less c = search needs
 loop-again : tie.Need-loop-again Inv-loop μ-loop
 loop-again c = search needs
 
-say-record-requires : tie.Need-say-record-requires Inv-loop μ-loop
-say-record-requires c κs = search needs
+print-record-requires : tie.Need-print-record-requires Inv-loop μ-loop
+print-record-requires c κs = search needs
 
 part-requires : tie.Need-part-requires Inv-loop μ-loop
 part-requires c κs = search needs
@@ -41,8 +41,8 @@ part-requires-2 c κs = search needs
 girth-add-requires-2 : tie.Need-girth-add-requires-2 Inv-loop μ-loop
 girth-add-requires-2 c κs = search needs
 
-say-record-requires-2 : tie.Need-say-record-requires-2 Inv-loop μ-loop
-say-record-requires-2 c κs = search needs
+print-record-requires-2 : tie.Need-print-record-requires-2 Inv-loop μ-loop
+print-record-requires-2 c κs = search needs
 
 same-length : tie.Need-same-length Inv-loop μ-loop
 same-length c = search needs
@@ -65,11 +65,11 @@ add-often-spec =
     add-i
     loop-less
     loop-again
-    say-record-requires
+    print-record-requires
     part-requires
     part-requires-2
     girth-add-requires-2
-    say-record-requires-2
+    print-record-requires-2
     same-length
     same-length-2
     returns)

@@ -38,11 +38,11 @@ loop-again c = search needs
 end-line-requires : tie.Need-end-line-requires Inv-loop μ-loop
 end-line-requires c κs = search needs
 
-say-table-requires : tie.Need-say-table-requires Inv-loop μ-loop
-say-table-requires c κs = search needs
+print-table-requires : tie.Need-print-table-requires Inv-loop μ-loop
+print-table-requires c κs = search needs
 
-say-table-requires-2 : tie.Need-say-table-requires-2 Inv-loop μ-loop
-say-table-requires-2 c κs = search needs
+print-table-requires-2 : tie.Need-print-table-requires-2 Inv-loop μ-loop
+print-table-requires-2 c κs = search needs
 
 same-length : tie.Need-same-length Inv-loop μ-loop
 same-length c = search needs
@@ -68,8 +68,8 @@ run-calls-spec =
     loop-less
     loop-again
     end-line-requires
-    say-table-requires
-    say-table-requires-2
+    print-table-requires
+    print-table-requires-2
     same-length
     same-length-2
     returns)

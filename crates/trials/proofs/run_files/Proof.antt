@@ -9,11 +9,11 @@ Inv-loop x₀ i₀ x i = i ≤ 400
 abbrev μ-loop : tie.MeasureT-loop
 μ-loop x₀ i₀ x i = 400 - i
 
-slice-aggregate-say-file : tie.Need-slice-aggregate-say-file Inv-loop μ-loop
-slice-aggregate-say-file c = search needs
+slice-aggregate-print-file : tie.Need-slice-aggregate-print-file Inv-loop μ-loop
+slice-aggregate-print-file c = search needs
 
-say-file-requires : tie.Need-say-file-requires Inv-loop μ-loop
-say-file-requires c κs = search needs
+print-file-requires : tie.Need-print-file-requires Inv-loop μ-loop
+print-file-requires c κs = search needs
 
 slice-aggregate-part : tie.Need-slice-aggregate-part Inv-loop μ-loop
 slice-aggregate-part c = search needs
@@ -21,8 +21,8 @@ slice-aggregate-part c = search needs
 part-requires : tie.Need-part-requires Inv-loop μ-loop
 part-requires c κs = search needs
 
-say-file-requires-2 : tie.Need-say-file-requires-2 Inv-loop μ-loop
-say-file-requires-2 c κs = search needs
+print-file-requires-2 : tie.Need-print-file-requires-2 Inv-loop μ-loop
+print-file-requires-2 c κs = search needs
 
 slice-aggregate-part-2 : tie.Need-slice-aggregate-part-2 Inv-loop μ-loop
 slice-aggregate-part-2 c = search needs
@@ -30,8 +30,8 @@ slice-aggregate-part-2 c = search needs
 part-requires-2 : tie.Need-part-requires-2 Inv-loop μ-loop
 part-requires-2 c κs = search needs
 
-say-file-requires-3 : tie.Need-say-file-requires-3 Inv-loop μ-loop
-say-file-requires-3 c κs = search needs
+print-file-requires-3 : tie.Need-print-file-requires-3 Inv-loop μ-loop
+print-file-requires-3 c κs = search needs
 
 loop-holds : tie.Need-loop-holds Inv-loop μ-loop
 loop-holds c = search needs
@@ -60,14 +60,14 @@ run-files-spec =
     (tie.spec
     Inv-loop
     μ-loop
-    slice-aggregate-say-file
-    say-file-requires
+    slice-aggregate-print-file
+    print-file-requires
     slice-aggregate-part
     part-requires
-    say-file-requires-2
+    print-file-requires-2
     slice-aggregate-part-2
     part-requires-2
-    say-file-requires-3
+    print-file-requires-3
     loop-holds
     next-requires
     run-file-requires

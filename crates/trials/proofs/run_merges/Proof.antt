@@ -26,8 +26,8 @@ girth-merge-requires c κs = search needs
 word-requires : tie.Need-word-requires Inv-loop μ-loop
 word-requires c κs = search needs
 
-say-requires : tie.Need-say-requires Inv-loop μ-loop
-say-requires c κs = search needs
+print-requires : tie.Need-print-requires Inv-loop μ-loop
+print-requires c κs = search needs
 
 groups-after-requires-2 : tie.Need-groups-after-requires-2 Inv-loop μ-loop
 groups-after-requires-2 c κs = search needs
@@ -38,8 +38,8 @@ girth-merge-requires-2 c κs = search needs
 word-requires-2 : tie.Need-word-requires-2 Inv-loop μ-loop
 word-requires-2 c κs = search needs
 
-say-requires-2 : tie.Need-say-requires-2 Inv-loop μ-loop
-say-requires-2 c κs = search needs
+print-requires-2 : tie.Need-print-requires-2 Inv-loop μ-loop
+print-requires-2 c κs = search needs
 
 groups-after-requires-3 : tie.Need-groups-after-requires-3 Inv-loop μ-loop
 groups-after-requires-3 c κs = search needs
@@ -56,11 +56,11 @@ loop-again c = search needs
 end-line-requires : tie.Need-end-line-requires Inv-loop μ-loop
 end-line-requires c κs = search needs
 
-say-table-requires : tie.Need-say-table-requires Inv-loop μ-loop
-say-table-requires c κs = search needs
+print-table-requires : tie.Need-print-table-requires Inv-loop μ-loop
+print-table-requires c κs = search needs
 
-say-table-requires-2 : tie.Need-say-table-requires-2 Inv-loop μ-loop
-say-table-requires-2 c κs = search needs
+print-table-requires-2 : tie.Need-print-table-requires-2 Inv-loop μ-loop
+print-table-requires-2 c κs = search needs
 
 same-length : tie.Need-same-length Inv-loop μ-loop
 same-length c = search needs
@@ -82,18 +82,18 @@ run-merges-spec =
     loop-holds
     girth-merge-requires
     word-requires
-    say-requires
+    print-requires
     groups-after-requires-2
     girth-merge-requires-2
     word-requires-2
-    say-requires-2
+    print-requires-2
     groups-after-requires-3
     add-i
     loop-less
     loop-again
     end-line-requires
-    say-table-requires
-    say-table-requires-2
+    print-table-requires
+    print-table-requires-2
     same-length
     same-length-2
     returns)

@@ -12,7 +12,7 @@ use lib.Ieee.Nearest.{closest, closest-same}
 use borrow.Author.Tests.{lt-ltb, le-ltb}
 use Rattle.level.specs.Double.{signed, negative, field, significand, size, value}
 use Rattle.level.specs.Level.{unit, nearestTo, left, given, below, top, contribution}
-use Rattle.level.specs.Cut.{shiftOf, apart, restOf, overOf, turn}
+use Rattle.level.specs.Cut.{shiftOf, apart, restOf, roundedUp, flippedIf}
 use Rattle.level.proofs.Near.{closest-small, closest-whole}
 use Rattle.level.proofs.Signs.{sub-signed}
 use Rattle.level.proofs.Top.{top-place}
@@ -43,8 +43,8 @@ module _ (n u x v : ℕ) (u-pos : 0 < u) (v-pos : 0 < v) (same : n * v ≡ x * u
   same-rest : restOf n u * v ≡ restOf x v * u
   same-rest = sym (apart-scale n (closest n u * u) v) ∙ ap₂ apart same whole ∙ apart-scale x (closest x v * v) u
 
-  same-over : overOf n u ≡ overOf x v
-  same-over = sym (ltb-scale n (closest n u * u) v v-pos) ∙ ap₂ ltb same whole ∙ ltb-scale x (closest x v * v) u u-pos
+  same-direction : roundedUp n u ≡ roundedUp x v
+  same-direction = sym (ltb-scale n (closest n u * u) v v-pos) ∙ ap₂ ltb same whole ∙ ltb-scale x (closest x v * v) u u-pos
 
 -- x / u with both sides multiplied
 module _ (x u s : ℕ) (u-pos : 0 < u) (s-pos : 0 < s) where
@@ -54,8 +54,8 @@ module _ (x u s : ℕ) (u-pos : 0 < u) (s-pos : 0 < s) where
   pub units-scale : closest (x * s) (u * s) ≡ closest x u
   units-scale = same-units (x * s) (u * s) x u (mul-pos u-pos s-pos) u-pos scaled-up
 
-  pub over-scale : overOf (x * s) (u * s) ≡ overOf x u
-  over-scale = same-over (x * s) (u * s) x u (mul-pos u-pos s-pos) u-pos scaled-up
+  pub direction-scale : roundedUp (x * s) (u * s) ≡ roundedUp x u
+  direction-scale = same-direction (x * s) (u * s) x u (mul-pos u-pos s-pos) u-pos scaled-up
 
   pub rest-scale : restOf (x * s) (u * s) ≡ restOf x u * s
   rest-scale =
@@ -71,39 +71,39 @@ nearest-signed : (g : Bool) (n u : ℕ) → 0 < u → nearestTo (signed g n) u �
 nearest-signed true n u h = nearest-neg (pos n) u h
 nearest-signed false n u h = refl
 
-kept : (b : Bool) → b ≡ turn false b
+kept : (b : Bool) → b ≡ flippedIf false b
 kept true = refl
 kept false = refl
 
-turned : (b : Bool) → not b ≡ turn true b
+turned : (b : Bool) → not b ≡ flippedIf true b
 turned true = refl
 turned false = refl
 
-left-signed : (g : Bool) (n j : ℕ) → left (signed g n) j ≡ signed (turn g (overOf n (unit j))) (restOf n (unit j))
+left-signed : (g : Bool) (n j : ℕ) → left (signed g n) j ≡ signed (flippedIf g (roundedUp n (unit j))) (restOf n (unit j))
 left-signed false n j =
-    sub-signed n (closest n (unit j) * unit j) ∙ ap (λ (b : Bool). signed b (restOf n (unit j))) (kept (overOf n (unit j)))
+    sub-signed n (closest n (unit j) * unit j) ∙ ap (λ (b : Bool). signed b (restOf n (unit j))) (kept (roundedUp n (unit j)))
 left-signed true n j =
-    left-neg (pos n) j ∙ ap negℤ (sub-signed n (closest n (unit j) * unit j)) ∙ neg-signed (overOf n (unit j)) (restOf n (unit j))
-    ∙ ap (λ (b : Bool). signed b (restOf n (unit j))) (turned (overOf n (unit j)))
+    left-neg (pos n) j ∙ ap negℤ (sub-signed n (closest n (unit j) * unit j)) ∙ neg-signed (roundedUp n (unit j)) (restOf n (unit j))
+    ∙ ap (λ (b : Bool). signed b (restOf n (unit j))) (turned (roundedUp n (unit j)))
 
 -- ---- the levels from t down
 -- what z gives k levels below t, where it starts
-unfoldable pub rung : ℕ → ℤ → ℕ → ℤ
-rung t z zero = nearestTo z (unit t)
-rung zero z (suc k) = pos 0
-rung (suc s) z (suc k) = rung s (left z (suc s)) k
+unfoldable pub givenBelow : ℕ → ℤ → ℕ → ℤ
+givenBelow t z zero = nearestTo z (unit t)
+givenBelow zero z (suc k) = pos 0
+givenBelow (suc s) z (suc k) = givenBelow s (left z (suc s)) k
 
-pub rung-below : (t : ℕ) (z : ℤ) (k : ℕ) → rung t z k ≡ below (given (suc t) z) t k
-unfolding rung
-rung-below t z zero = rw (leb·zero t, sub-zero t) (sym (given-here t z))
-rung-below zero z (suc k) = rw (leb·suc-zero k)
-rung-below (suc s) z (suc k) =
-    rw (leb·suc-suc k s, suc-sub-suc s k, given-lower (suc s) z (s - k) (omega arith)) (rung-below s (left z (suc s)) k)
+pub givenBelow-is : (t : ℕ) (z : ℤ) (k : ℕ) → givenBelow t z k ≡ below (given (suc t) z) t k
+unfolding givenBelow
+givenBelow-is t z zero = rw (leb·zero t, sub-zero t) (sym (given-here t z))
+givenBelow-is zero z (suc k) = rw (leb·suc-zero k)
+givenBelow-is (suc s) z (suc k) =
+    rw (leb·suc-suc k s, suc-sub-suc s k, given-lower (suc s) z (s - k) (omega arith)) (givenBelow-is s (left z (suc s)) k)
 
 -- the same from a size x that is counted in units v throughout: each level down counts 2^40 times as much
 unfoldable pub scaled : ℕ → Bool → ℕ → ℕ → ℤ
 scaled v g x zero = signed g (closest x v)
-scaled v g x (suc k) = scaled v (turn g (overOf x v)) (restOf x v * 2 ^ 40) k
+scaled v g x (suc k) = scaled v (flippedIf g (roundedUp x v)) (restOf x v * 2 ^ 40) k
 
 signed-zero : (g : Bool) → signed g 0 ≡ pos 0
 signed-zero true = refl
@@ -118,27 +118,27 @@ unfolding scaled
 scaled-zero v h g x zero e = ap (signed g) (ap (λ (y : ℕ). closest y v) e ∙ closest-small 0 v h zero-le) ∙ signed-zero g
 scaled-zero v h g x (suc k) e =
     let r : restOf x v ≡ 0 = ap (λ (y : ℕ). restOf y v) (e ∙ sym (zero-mul v)) ∙ rest-whole 0 v h in
-    scaled-zero v h (turn g (overOf x v)) (restOf x v * 2 ^ 40) k (omega arith)
+    scaled-zero v h (flippedIf g (roundedUp x v)) (restOf x v * 2 ^ 40) k (omega arith)
 
-rung-scaled : (v : ℕ) → 0 < v → (t : ℕ) (g : Bool) (n x k : ℕ) → n * v ≡ x * unit t → rung t (signed g n) k ≡ scaled v g x k
-unfolding rung scaled
-rung-scaled v h t g n x zero e = nearest-signed g n (unit t) (unit-pos t) ∙ ap (signed g) (same-units n (unit t) x v (unit-pos t) h e)
-rung-scaled v h zero g n x (suc k) e =
+givenBelow-scaled : (v : ℕ) → 0 < v → (t : ℕ) (g : Bool) (n x k : ℕ) → n * v ≡ x * unit t → givenBelow t (signed g n) k ≡ scaled v g x k
+unfolding givenBelow scaled
+givenBelow-scaled v h t g n x zero e = nearest-signed g n (unit t) (unit-pos t) ∙ ap (signed g) (same-units n (unit t) x v (unit-pos t) h e)
+givenBelow-scaled v h zero g n x (suc k) e =
     let r : restOf x v ≡ 0 = ap (λ (y : ℕ). restOf y v) (omega arith) ∙ rest-whole n v h in
-    sym (scaled-zero v h (turn g (overOf x v)) (restOf x v * 2 ^ 40) k (omega arith))
-rung-scaled v h (suc s) g n x (suc k) e =
+    sym (scaled-zero v h (flippedIf g (roundedUp x v)) (restOf x v * 2 ^ 40) k (omega arith))
+givenBelow-scaled v h (suc s) g n x (suc k) e =
     let u = unit (suc s) in
     let p = unit-pos (suc s) in
-    ap (λ (z : ℤ). rung s z k) (left-signed g n (suc s))
-    ∙ ap (λ (b : Bool). rung s (signed (turn g b) (restOf n u)) k) (same-over n u x v p h e)
-    ∙ rung-scaled v h s (turn g (overOf x v)) (restOf n u) (restOf x v * 2 ^ 40) k
+    ap (λ (z : ℤ). givenBelow s z k) (left-signed g n (suc s))
+    ∙ ap (λ (b : Bool). givenBelow s (signed (flippedIf g b) (restOf n u)) k) (same-direction n u x v p h e)
+    ∙ givenBelow-scaled v h s (flippedIf g (roundedUp x v)) (restOf n u) (restOf x v * 2 ^ 40) k
     (same-rest n u x v p h e ∙ ap (λ (w : ℕ). restOf x v * w) (unit-suc s) ∙ sym (mul-assoc (restOf x v) (2 ^ 40) (unit s)))
 
 -- a row's contributions from its top down, from its significand
 pub row-scaled : (b k : ℕ) → below (contribution b) (top b) k ≡ scaled (2 ^ shiftOf b) (negative b) (significand b) k
 unfolding contribution
 row-scaled b k =
-    sym (rung-below (top b) (value b) k)
-    ∙ rung-scaled (2 ^ shiftOf b) (pow-pos (shiftOf b)) (top b) (negative b) (size b) (significand b) k
+    sym (givenBelow-is (top b) (value b) k)
+    ∙ givenBelow-scaled (2 ^ shiftOf b) (pow-pos (shiftOf b)) (top b) (negative b) (size b) (significand b) k
     (mul-assoc (significand b) (2 ^ (field b - 1)) (2 ^ shiftOf b)
     ∙ ap (λ (w : ℕ). significand b * w) (sym (pow-add 2 (field b - 1) (shiftOf b)) ∙ ap (λ (e : ℕ). 2 ^ e) (omega (arith, top-place b))))

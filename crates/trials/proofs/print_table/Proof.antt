@@ -1,7 +1,7 @@
 use Prim.Native.Nat.{_≤_, _-_}
 use borrow.Author.Needs.{needs}
-use Rattle.trials.proofs.say_table.Statement.{statement}
-use Rattle.trials.proofs.say_table.Tie as tie
+use Rattle.trials.proofs.print_table.Statement.{statement}
+use Rattle.trials.proofs.print_table.Tie as tie
 
 abbrev Inv-loop : tie.InvT-loop
 Inv-loop t g key₀ key = key ≤ 17
@@ -9,14 +9,14 @@ Inv-loop t g key₀ key = key ≤ 17
 abbrev μ-loop : tie.MeasureT-loop
 μ-loop t g key₀ key = 17 - key
 
-say-requires : tie.Need-say-requires Inv-loop μ-loop
-say-requires c κs = search needs
+print-requires : tie.Need-print-requires Inv-loop μ-loop
+print-requires c κs = search needs
 
 digest-requires : tie.Need-digest-requires Inv-loop μ-loop
 digest-requires c κs = search needs
 
-say-requires-2 : tie.Need-say-requires-2 Inv-loop μ-loop
-say-requires-2 c κs = search needs
+print-requires-2 : tie.Need-print-requires-2 Inv-loop μ-loop
+print-requires-2 c κs = search needs
 
 end-line-requires : tie.Need-end-line-requires Inv-loop μ-loop
 end-line-requires c κs = search needs
@@ -24,8 +24,8 @@ end-line-requires c κs = search needs
 loop-holds : tie.Need-loop-holds Inv-loop μ-loop
 loop-holds c = search needs
 
-say-section-requires : tie.Need-say-section-requires Inv-loop μ-loop
-say-section-requires c κs = search needs
+print-section-requires : tie.Need-print-section-requires Inv-loop μ-loop
+print-section-requires c κs = search needs
 
 add-key : tie.Need-add-key Inv-loop μ-loop
 add-key c = search needs
@@ -39,18 +39,18 @@ loop-again c = search needs
 returns : tie.Need-returns Inv-loop μ-loop
 returns c = search needs
 
-pub say-table-spec : {M : Type 1} → statement M
-say-table-spec =
+pub print-table-spec : {M : Type 1} → statement M
+print-table-spec =
     tie.close
     (tie.spec
     Inv-loop
     μ-loop
-    say-requires
+    print-requires
     digest-requires
-    say-requires-2
+    print-requires-2
     end-line-requires
     loop-holds
-    say-section-requires
+    print-section-requires
     add-key
     loop-less
     loop-again

@@ -1,4 +1,4 @@
--- `combined_even`: at one top the three levels are added in their places.
+-- `combined_same_top`: at one top the three levels are added in their places.
 use Prim.Native.Nat.{ℕ, _+_, _^_, _<_, max}
 use mathlib.Core.Path.{_≡_, sym, ap, _∙_}
 use native.Mathlib.Omega.{arith}
@@ -9,9 +9,9 @@ use Rattle.record.specs.Section.{meaning}
 use Rattle.record.proofs.Parts.{SoundParts, sound-record-parts}
 use Rattle.table.specs.Combine.{combine}
 use Rattle.table.specs.Steps.{bothAt}
-use Rattle.table.proofs.Totals.{held-range, even-high, even-middle, even-low}
-use Rattle.table.proofs.combined_even.Statement.{statement}
-use Rattle.table.proofs.combined_even.Tie as tie
+use Rattle.table.proofs.Totals.{held-range, same-top-high, same-top-middle, same-top-low}
+use Rattle.table.proofs.combined_same_top.Statement.{statement}
+use Rattle.table.proofs.combined_same_top.Tie as tie
 
 few : (c : tie.Start) → (c .args .a .count < 2 ^ 32) × (c .args .b .count < 2 ^ 32)
 few c = search needs
@@ -51,11 +51,11 @@ returns c =
     let b = s .args .b in
     let e = s .pre .1 .1 .0 in
     let t : a .top ≡ max (a .top) (b .top) = omega arith in
-    let h = c .before .before .add-held .ensures ∙ ap heldOf (sym (even-high a b e (parts s .0) (parts s .1)) ∙ ap (λ (n : ℕ). below (bothAt (meaning a) (meaning b)) n 0) t) in
-    let m = c .before .add-held2 .ensures ∙ ap heldOf (sym (even-middle a b e (parts s .0) (parts s .1)) ∙ ap (λ (n : ℕ). below (bothAt (meaning a) (meaning b)) n 1) t) in
-    let l = c .add-held3 .ensures ∙ ap heldOf (sym (even-low a b e (parts s .0) (parts s .1)) ∙ ap (λ (n : ℕ). below (bothAt (meaning a) (meaning b)) n 2) t) in
+    let h = c .before .before .add-held .ensures ∙ ap heldOf (sym (same-top-high a b e (parts s .0) (parts s .1)) ∙ ap (λ (n : ℕ). below (bothAt (meaning a) (meaning b)) n 0) t) in
+    let m = c .before .add-held2 .ensures ∙ ap heldOf (sym (same-top-middle a b e (parts s .0) (parts s .1)) ∙ ap (λ (n : ℕ). below (bothAt (meaning a) (meaning b)) n 1) t) in
+    let l = c .add-held3 .ensures ∙ ap heldOf (sym (same-top-low a b e (parts s .0) (parts s .1)) ∙ ap (λ (n : ℕ). below (bothAt (meaning a) (meaning b)) n 2) t) in
     λ i. record { key = a .key; count = a .count + b .count; top = t i; zero = 0; high = h i; middle = m i; low = l i }
 
-pub combined-even-spec : {M : Type 1} → statement M
-combined-even-spec =
+pub combined-same-top-spec : {M : Type 1} → statement M
+combined-same-top-spec =
     tie.close (tie.spec add-t3 add-held-requires add-held-requires-2 add-held-requires-3 returns)

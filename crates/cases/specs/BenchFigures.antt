@@ -10,7 +10,7 @@ use Rattle.record.specs.Section.{Section, find}
 use Rattle.table.specs.Combine.{added}
 use Rattle.finish.specs.Finish.{sumOf, figureOf}
 
--- a figure of the book
+-- a figure of the benchFigures
 pub data Figure : Type 0 where
   -- the top and the three totals
   totals : ℕ → ℤ → ℤ → ℤ → Figure
@@ -64,7 +64,7 @@ of o bs (leftToRight a) = leftToRight (toBits binary64 (addedUp (ofBits binary64
 abbrev pub computed : Case → Figure
 computed c = of (section (c .rows)) (c .rows) (c .figure)
 
--- ---- the book
+-- ---- the benchFigures
 
 abbrev one : ℕ
 one = 0x3FF0000000000000
@@ -73,8 +73,8 @@ abbrev row : List ℕ → Figure → Case
 row bs f = record { rows = bs; figure = f }
 
 -- document 01's figures B1 to B12, each with its rows
-abbrev pub book : List Case
-book =
+abbrev pub benchFigures : List Case
+benchFigures =
     -- B1: 1; B2: -1; B3: 31.5; B4: 32; B5: 96
     row (one ∷ []) (totals 26 (pos (2 ^ 34)) (pos 0) (pos 0))
     ∷ row (0xBFF0000000000000 ∷ []) (split 1125882726973440 (negsuc 0))

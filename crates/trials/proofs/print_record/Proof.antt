@@ -1,7 +1,7 @@
 use Prim.Native.Nat.{_≤_, _-_}
 use borrow.Author.Needs.{needs}
-use Rattle.trials.proofs.say_record.Statement.{statement}
-use Rattle.trials.proofs.say_record.Tie as tie
+use Rattle.trials.proofs.print_record.Statement.{statement}
+use Rattle.trials.proofs.print_record.Tie as tie
 
 abbrev Inv-loop : tie.InvT-loop
 Inv-loop t i₀ i = i ≤ 8
@@ -24,8 +24,8 @@ mul-u64-at c = search needs
 u64-at-requires : tie.Need-u64-at-requires Inv-loop μ-loop
 u64-at-requires c κs = search needs
 
-say-requires : tie.Need-say-requires Inv-loop μ-loop
-say-requires c κs = search needs
+print-requires : tie.Need-print-requires Inv-loop μ-loop
+print-requires c κs = search needs
 
 add-i : tie.Need-add-i Inv-loop μ-loop
 add-i c = search needs
@@ -42,8 +42,8 @@ end-line-requires c κs = search needs
 returns : tie.Need-returns Inv-loop μ-loop
 returns c = search needs
 
-pub say-record-spec : {M : Type 1} → statement M
-say-record-spec =
+pub print-record-spec : {M : Type 1} → statement M
+print-record-spec =
     tie.close
     (tie.spec
     Inv-loop
@@ -53,7 +53,7 @@ say-record-spec =
     add-if1
     mul-u64-at
     u64-at-requires
-    say-requires
+    print-requires
     add-i
     loop-less
     loop-again
