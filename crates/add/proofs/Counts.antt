@@ -14,11 +14,11 @@ use Rattle.columns.specs.declared.Kind.{Kind}
 use Rattle.columns.specs.Columns.{Row, columnRows, rowsOf, columnKeys}
 use Rattle.record.specs.Section.{Section, find}
 use Rattle.table.specs.Combine.{ofRow, combine, absorb, added}
-use Rattle.table.specs.Calls.{overflows}
+use Rattle.table.specs.Calls.{mostRows, overflows}
 use Rattle.lists.specs.Lists.{anyOf, occurrences}
 use Rattle.lists.proofs.Booleans.{same-test}
 use Rattle.lists.proofs.All.{All}
-use Rattle.table.proofs.Lookup.{Rising, keysIn, rising-tail, find-nil, find-head, find-tail, find-above, absorb-cases, absorb-rising, find-absorb, join, only, only-is, only-not, join-none}
+use Rattle.table.proofs.Lookup.{Rising, keysIn, rising-tail, find-nil, find-head, find-tail, find-above, absorb-cases, absorb-rising, added-rising, find-absorb, join, only, only-is, only-not, join-none}
 use Rattle.add.specs.Steps.{countOf, countIn, countOverflows}
 use Rattle.lists.proofs.Scanning.{occurrences-le}
 use Rattle.columns.proofs.Cells.{row-keys}
@@ -85,7 +85,7 @@ count-added k [] ts h = omega arith
 count-added k (r ∷ rs) ts h =
     omega (arith, count-added k rs (absorb (ofRow r) ts) (absorb-rising (ofRow r) ts h), count-absorb k r ts h)
 
--- ---- every section has a row, and the numbers rise
+-- ---- every section has a row
 pub added-counts : (rs : List Row) (ts : List Section) → All (λ (s : Section). 1 ≤ s .count) ts → All (λ (s : Section). 1 ≤ s .count) (added ts rs)
 unfolding added combine
 added-counts [] ts a = a
@@ -94,11 +94,6 @@ added-counts (r ∷ rs) ts a =
     (absorb-cases (λ (ts us : List Section). All (λ (s : Section). 1 ≤ s .count) ts → All (λ (s : Section). 1 ≤ s .count) us) (ofRow r)
     (λ a. (omega (arith, row-count r), tt)) (λ t ts h a. (omega (arith, row-count r), a)) (λ t ts h a. (omega (arith, a .0), a .1)) (λ t ts h ih a. (a .0, ih (a .1)))
     ts a)
-
-pub added-rising : (rs : List Row) (ts : List Section) → Rising (keysIn ts) → Rising (keysIn (added ts rs))
-unfolding added
-added-rising [] ts r = r
-added-rising (x ∷ rs) ts r = added-rising rs (absorb (ofRow x) ts) (absorb-rising (ofRow x) ts r)
 
 -- ---- a test of the numbers of a list
 any-number : (p : ℕ → Bool) (xs : List ℕ) → anyOf p xs ≡ true → (k : ℕ) × (p k ≡ true)
@@ -119,17 +114,17 @@ number-any p k (x ∷ xs) h e = by (ℕ-discrete x k) (number-any p k xs)
     by (yes q) ih = ap (λ (b : Bool). b || anyOf p xs) (ap p q ∙ e)
     by (no q) ih = let l : 0 < cond false 1 0 + occurrences k xs = rw (ne-eqb x k q) at h in rw (ih (omega arith) e) (or-true (p x))
 
-count-few : (k : ℕ) (ts : List Section) → All (λ (s : Section). s .count ≤ 4294967295) ts → countIn k ts ≤ 4294967295
+count-few : (k : ℕ) (ts : List Section) → All (λ (s : Section). s .count ≤ mostRows) ts → countIn k ts ≤ mostRows
 count-few k [] a = rw (find-nil k) (omega arith)
 count-few k (t ∷ ts) a = by (ℕ-discrete k (t .key)) (count-few k ts (a .1))
   where
-    by : Dec (k ≡ t .key) → countIn k ts ≤ 4294967295 → countIn k (t ∷ ts) ≤ 4294967295
+    by : Dec (k ≡ t .key) → countIn k ts ≤ mostRows → countIn k (t ∷ ts) ≤ mostRows
     by (yes q) ih = rw (find-head k t ts q) (a .0)
     by (no q) ih = rw (find-tail k t ts q) ih
 
 -- ---- whether an add overflows-by a section overflows
 abbrev full : ℕ → ℕ → Bool
-full k c = ltb 4294967295 c
+full k c = ltb mostRows c
 
 module _ (kind : Kind) (ks vs : List ℕ) (ts : List Section) (a : All (λ (s : Section). 1 ≤ s .count) ts) (r : Rising (keysIn ts)) where
   abbrev after : List Section
@@ -141,33 +136,33 @@ module _ (kind : Kind) (ks vs : List ℕ) (ts : List Section) (a : All (λ (s : 
   -- the add overflows-by section k overflows
   overflows-by : (k : ℕ) → countOverflows ks k (countIn k ts) ≡ true → anyOf overflows after ≡ true
   overflows-by k e =
-      let h = ltb-true 4294967295 (countIn k ts + occurrences k (columnKeys ks)) e in
-      let l : 4294967295 < countIn k after = omega (arith, counts k) in
-      count-any full k after (omega arith) (lt-ltb 4294967295 (countIn k after) l)
+      let h = ltb-true mostRows (countIn k ts + occurrences k (columnKeys ks)) e in
+      let l : mostRows < countIn k after = omega (arith, counts k) in
+      count-any full k after (omega arith) (lt-ltb mostRows (countIn k after) l)
 
   -- and so does every section that becomes overflows
   overflow-by : anyOf overflows after ≡ true → (k : ℕ) × (countOverflows ks k (countIn k ts) ≡ true)
   overflow-by e =
-      let w = any-count full after (added-counts (rowsOf kind ks vs) ts a) (added-rising (rowsOf kind ks vs) ts r) e in
-      let h = ltb-true 4294967295 (countIn (w .0) after) (w .2) in
-      (w .0, lt-ltb 4294967295 (countIn (w .0) ts + occurrences (w .0) (columnKeys ks)) (omega (arith, counts (w .0))))
+      let w = any-count full after (added-counts (rowsOf kind ks vs) ts a) (added-rising ts (rowsOf kind ks vs) r) e in
+      let h = ltb-true mostRows (countIn (w .0) after) (w .2) in
+      (w .0, lt-ltb mostRows (countIn (w .0) ts + occurrences (w .0) (columnKeys ks)) (omega (arith, counts (w .0))))
 
   -- with few rows, a section of the table
-  pub section-overflow : columnRows ks ≤ 4294967295 → anyOf (λ (s : Section). countOverflows ks (s .key) (s .count)) ts ≡ anyOf overflows after
+  pub section-overflow : columnRows ks ≤ mostRows → anyOf (λ (s : Section). countOverflows ks (s .key) (s .count)) ts ≡ anyOf overflows after
   section-overflow few = same-test _ _ (λ e. let w = any-count (countOverflows ks) ts a r e in overflows-by (w .0) (w .2)) back
     where
       back : anyOf overflows after ≡ true → anyOf (λ (s : Section). countOverflows ks (s .key) (s .count)) ts ≡ true
       back e =
           let w = overflow-by e in
-          let h = ltb-true 4294967295 (countIn (w .0) ts + occurrences (w .0) (columnKeys ks)) (w .1) in
+          let h = ltb-true mostRows (countIn (w .0) ts + occurrences (w .0) (columnKeys ks)) (w .1) in
           count-any (countOverflows ks) (w .0) ts (omega (arith, occurrences-le (w .0) (columnKeys ks), length-cells 4 number (columnRows ks) ks)) (w .1)
 
   -- in any case, the section of a row
-  pub row-overflow : All (λ (s : Section). s .count ≤ 4294967295) ts → anyOf (λ (k : ℕ). countOverflows ks k (countIn k ts)) (columnKeys ks) ≡ anyOf overflows after
+  pub row-overflow : All (λ (s : Section). s .count ≤ mostRows) ts → anyOf (λ (k : ℕ). countOverflows ks k (countIn k ts)) (columnKeys ks) ≡ anyOf overflows after
   row-overflow few = same-test _ _ (λ e. let w = any-number (λ (k : ℕ). countOverflows ks k (countIn k ts)) (columnKeys ks) e in overflows-by (w .0) (w .1)) back
     where
       back : anyOf overflows after ≡ true → anyOf (λ (k : ℕ). countOverflows ks k (countIn k ts)) (columnKeys ks) ≡ true
       back e =
           let w = overflow-by e in
-          let h = ltb-true 4294967295 (countIn (w .0) ts + occurrences (w .0) (columnKeys ks)) (w .1) in
+          let h = ltb-true mostRows (countIn (w .0) ts + occurrences (w .0) (columnKeys ks)) (w .1) in
           number-any (λ (k : ℕ). countOverflows ks k (countIn k ts)) (w .0) (columnKeys ks) (omega (arith, count-few (w .0) ts few)) (w .1)

@@ -22,7 +22,7 @@ use Rattle.record.specs.Section.{Section, meaning, recordOf, sections, sectionB
 use Rattle.record.proofs.Laws.{length-encode, decode-part}
 use Rattle.record.proofs.Sound.{sound-parts, sound-made}
 use Rattle.record.proofs.Found.{sound-record-at}
-use Rattle.table.specs.Calls.{overflows}
+use Rattle.table.specs.Calls.{mostRows, overflows}
 use Rattle.lists.specs.Lists.{anyOf}
 use Rattle.lists.proofs.All.{All, all-append, all-map}
 use Rattle.table.proofs.State.{record-meaning, length-sections, used-bytes}
@@ -116,7 +116,7 @@ none-overflow s zero l h = refl
 none-overflow s (suc i) l h =
     ap (anyOf overflows) (sections-more s i l)
     ∙ any-append overflows (sections s i) (sectionIn s i)
-    ∙ ap₂ _||_ (none-overflow s i (omega arith) h) (le-ltb 4294967295 (countAt s i) (omega (arith, numberAt-lt 4 (i * 64 + 4) s h)))
+    ∙ ap₂ _||_ (none-overflow s i (omega arith) h) (le-ltb mostRows (countAt s i) (omega (arith, numberAt-lt 4 (i * 64 + 4) s h)))
 
 -- ---- tables of as many bytes whose used bytes agree
 module _ (s t : List ℕ) (i : ℕ) (same : take (i * 64) s ≡ take (i * 64) t) (long : length s ≡ length t) (fits : i * 64 ≤ length s) where

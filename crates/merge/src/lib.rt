@@ -6,13 +6,16 @@ ghost use lib.Dec.{T};
 ghost use lib.ListN.{length};
 ghost use Rattle.record.specs.Sound.{sound};
 ghost use Rattle.record.specs.Section.{recordOf, written};
-ghost use Rattle.table.specs.Calls.{overflows, mergeSections, mergeOutcome, mergeLeaves};
+ghost use Rattle.table.specs.Calls.{mostRows, overflows, mergeSections, mergeOutcome, mergeLeaves};
 ghost use Rattle.lists.specs.Lists.{anyOf};
 ghost use Rattle.table.specs.Answer.{tableAnswer};
 ghost use Rattle.merge.specs.Steps.{countAt, Within, lastSection, Back};
 use record::Record;
 use refusal::Refusal;
 use table::TableAnswer;
+
+// The largest row count that a record has room for.
+const MOST_ROWS: u64 = 4294967295;
 
 // How many records of two tables are left, of each.
 pub struct Ends {
@@ -44,7 +47,7 @@ fn previous(first: &[u8], i: usize, second: &[u8], j: usize) -> Ends
 // The row count of record i.
 fn count_at(t: &[u8], i: usize) -> u64
     requires { ⌜ i * 64 + 64 ≤ length (now t) ⌝ }
-    ensures { λ r. ⌜ (r ≡ countAt (now (t .entry)) i) × (r ≤ 4294967295) ⌝ }
+    ensures { λ r. ⌜ (r ≡ countAt (now (t .entry)) i) × (r ≤ mostRows) ⌝ }
 {
     codec::u32_at(t, i * 64 + 4) as u64
 }
@@ -98,7 +101,7 @@ fn united(first: &[u8], g1: usize, second: &[u8], g2: usize) -> Union
     let mut overflow = false;
     while 0 < j {
         let e = previous(first, i, second, j);
-        if 4294967295 < last_count(first, i, second, j, e) {
+        if MOST_ROWS < last_count(first, i, second, j, e) {
             overflow = true;
         }
         i = e.i;

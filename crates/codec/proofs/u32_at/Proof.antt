@@ -1,3 +1,4 @@
+-- `u32_at` puts four bytes together; each is below 256, so none reaches into the next one's place.
 use Prim.Native.Nat.{ℕ, suc, _+_, _*_, _≤_}
 use mathlib.Core.Path.{_≡_}
 use mathlib.Core.List.{List}

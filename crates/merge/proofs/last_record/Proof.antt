@@ -6,6 +6,7 @@ use borrow.Author.Tests.{ltb-false}
 use Rattle.record.specs.declared.Record.{Record}
 use Rattle.record.specs.Section.{meaning, recordOf}
 use Rattle.table.specs.Combine.{combine}
+use Rattle.table.specs.Calls.{mostRows}
 use Rattle.merge.specs.Steps.{lastSection}
 use Rattle.record.proofs.Found.{sound-record-at}
 use Rattle.merge.proofs.State.{record-in}
@@ -51,7 +52,7 @@ combined-requires c κs =
     let a = s .args in
     let m = c .before .before .before .before .if1 .left in
     let n = c .before .before .if2 .left in
-    let k = ltb-false 4294967295 (lastSection (a .first .now) (a .i) (a .second .now) (a .j) (a .e) .count) (s .pre .1 .1 .1) in
+    let k = ltb-false mostRows (lastSection (a .first .now) (a .i) (a .second .now) (a .j) (a .e) .count) (s .pre .1 .1 .1) in
     rw (c .before .get3 .ensures, c .get4 .ensures) (
       sound-record-at (a .first .now) (a .i) (a .e .i) (s .pre .1 .0) (lt-of-le-ne (s .pre .0 .first) m),
       (

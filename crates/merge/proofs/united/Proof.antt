@@ -10,7 +10,7 @@ use lib.Dec.{T}
 use lib.ListN.{length}
 use Rattle.record.specs.Sound.{sound}
 use Rattle.record.proofs.Sound.{sound-parts}
-use Rattle.table.specs.Calls.{overflows, mergeSections}
+use Rattle.table.specs.Calls.{mostRows, overflows, mergeSections}
 use Rattle.lists.specs.Lists.{anyOf}
 use Rattle.merge.specs.declared.Ends.{Ends}
 use Rattle.merge.specs.Steps.{lastSection, Back}
@@ -31,21 +31,21 @@ abbrev μ-loop : tie.MeasureT-loop
 
 -- what one section more says of a section with too many rows; `rest` is what the sections before it say
 module _ {s s′ : List ℕ} {i j : ℕ} {e : Ends} (b : Back s i s′ j e) (overflow : Bool) {r : ℕ} (q : r ≡ lastSection s i s′ j e .count) {over′ all : Bool} where
-  taken : 4294967295 < r → over′ ≡ true → (overflow || anyOf overflows (mergeSections s i s′ j)) ≡ all
+  taken : mostRows < r → over′ ≡ true → (overflow || anyOf overflows (mergeSections s i s′ j)) ≡ all
       → (over′ || anyOf overflows (mergeSections s (e .i) s′ (e .j))) ≡ all
   taken h w v =
       let rest : Bool = anyOf overflows (mergeSections s (e .i) s′ (e .j)) in
-      let x = lt-ltb 4294967295 (lastSection s i s′ j e .count) (omega (arith, q)) in
+      let x = lt-ltb mostRows (lastSection s i s′ j e .count) (omega (arith, q)) in
       ap (λ (z : Bool). z || rest) w
       ∙ sym (or-true overflow)
       ∙ ap (λ (z : Bool). overflow || z) (sym (any-back b ∙ ap (λ (z : Bool). rest || z) x ∙ or-true rest))
       ∙ v
 
-  passed : r ≤ 4294967295 → over′ ≡ overflow → (overflow || anyOf overflows (mergeSections s i s′ j)) ≡ all
+  passed : r ≤ mostRows → over′ ≡ overflow → (overflow || anyOf overflows (mergeSections s i s′ j)) ≡ all
       → (over′ || anyOf overflows (mergeSections s (e .i) s′ (e .j))) ≡ all
   passed h w v =
       let rest : Bool = anyOf overflows (mergeSections s (e .i) s′ (e .j)) in
-      let x = le-ltb 4294967295 (lastSection s i s′ j e .count) (omega (arith, q)) in
+      let x = le-ltb mostRows (lastSection s i s′ j e .count) (omega (arith, q)) in
       ap (λ (z : Bool). z || rest) w
       ∙ ap (λ (z : Bool). overflow || z) (sym (any-back b ∙ ap (λ (z : Bool). rest || z) x ∙ or-false rest))
       ∙ v

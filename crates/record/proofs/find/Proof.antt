@@ -1,3 +1,4 @@
+-- `find`: the number of keys below the one looked for lies between lo and lo + n, and each step halves n.
 use Prim.Native.Nat.{ℕ, _+_, _-_, _*_, _/_, _≤_, _<_, zero-le}
 use mathlib.Core.Path.{_≡_, refl, sym, _∙_}
 use mathlib.Core.List.{List}

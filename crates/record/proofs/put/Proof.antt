@@ -1,3 +1,4 @@
+-- `put` writes field after field; the seven parts stand one behind the other, so they are the record's encoding.
 use Prim.Native.Nat.{_*_}
 use Rattle.record.proofs.Laws.{stored, decode-encode, InRange}
 use borrow.Author.Needs.{needs}

@@ -1,3 +1,4 @@
+-- `record_sound` asks each condition of soundness by itself, in the definition's order.
 use mathlib.Core.Path.{_≡_}
 use mathlib.Core.Bool.{Bool, _&&_, _||_}
 use lib.Dec.{leb, eqb}

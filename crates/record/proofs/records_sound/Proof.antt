@@ -1,3 +1,4 @@
+-- `records_sound`: the records from i on decide, and the keys from i on, since each before i was sound and rose.
 use Prim.Native.Nat.{ℕ, suc, _+_, _-_, _*_, _≤_, _<_, zero-le}
 use mathlib.Core.Path.{_≡_, refl, sym, ap, ap₂, _∙_}
 use mathlib.Core.Bool.{Bool, true, false, not, _&&_}

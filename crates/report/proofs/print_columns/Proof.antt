@@ -1,3 +1,4 @@
+-- `print_columns` prints what the add to an empty table leaves, or its refusal.
 use mathlib.Core.Path.{_≡_, sym, ap, _∙_}
 use native.Mathlib.Omega.{arith}
 use Rattle.codec.proofs.Laws.{AreBytes}

@@ -1,3 +1,4 @@
+-- `print_unfinished` prints by the case of the sum; the bound of each case is the largest of all.
 use native.Mathlib.Omega.{arith}
 use mathlib.Core.Path.{subst}
 use Rattle.finish.specs.Steps.{FiniteSum}

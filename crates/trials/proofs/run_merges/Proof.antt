@@ -1,3 +1,4 @@
+-- `run_merges`: the group counts stay within the tables, so that every call can be made.
 use Prim.Native.Nat.{_≤_, _-_}
 use mathlib.Core.Path.{_≡_}
 use lib.ListN.{length}
