@@ -1,8 +1,8 @@
 -- Worked examples, computed from the definitions.
-use Prim.Native.Nat.{ℕ, _^_, _-_}
+use Prim.Native.Nat.{_^_, _-_}
 use mathlib.Core.Path.{_≡_, refl}
-use mathlib.Core.List.{List, [], _∷_}
-use lib.IntN.{pos, negsuc}
+use mathlib.Core.List.{[], _∷_}
+use lib.IntN.{negsuc}
 use mir.Syntax.{w64}
 use mir.Val.{toZ, ofZ}
 use Rattle.codec.specs.Bytes.{number, bytes, numberAt}

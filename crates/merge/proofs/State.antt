@@ -12,7 +12,7 @@ use lib.Ieee.Fits.{and-l, and-r, and-i}
 use lib.ListN.{length, take, drop, length-append, take-append-drop}
 use lib.Seq.{sets, sets-eq, length-take-le, drop-at}
 use Rattle.codec.specs.Cells.{cells, image}
-use Rattle.codec.proofs.Cells.{cells-add, cells-take, image-append}
+use Rattle.codec.proofs.Cells.{cells-add, image-append}
 use Rattle.codec.proofs.Laws.{AreBytes, numberAt-lt}
 use Rattle.record.specs.declared.Record.{Record}
 use Rattle.record.specs.Layout.{recordAt, records, decode, encode}
@@ -117,19 +117,6 @@ none-overflow s (suc i) l h =
     ap (anyOf overflows) (sections-more s i l)
     ∙ any-append overflows (sections s i) (sectionIn s i)
     ∙ ap₂ _||_ (none-overflow s i (omega arith) h) (le-ltb mostRows (countAt s i) (omega (arith, numberAt-lt 4 (i * 64 + 4) s h)))
-
--- ---- tables of as many bytes whose used bytes agree
-module _ (s t : List ℕ) (i : ℕ) (same : take (i * 64) s ≡ take (i * 64) t) (long : length s ≡ length t) (fits : i * 64 ≤ length s) where
-  records-agree : records s i ≡ records t i
-  records-agree =
-      sym (cells-take 64 decode i s fits) ∙ ap (cells 64 decode i) same ∙ cells-take 64 decode i t (omega arith)
-
-  pub sections-agree : sections s i ≡ sections t i
-  sections-agree = ap (map meaning) records-agree
-
-  pub sound-agree : T (sound t i) → T (sound s i)
-  unfolding sound
-  sound-agree h = rw (records-agree, long) h
 
 -- ---- one section more, written at its place
 drop-stored : (s e : List ℕ) (i : ℕ) → i + length e ≤ length s → drop i (sets s i e) ≡ e ++ drop (i + length e) s

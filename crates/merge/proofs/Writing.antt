@@ -20,7 +20,8 @@ use Rattle.table.proofs.Lookup.{merged-length}
 use Rattle.merge.specs.declared.Ends.{Ends}
 use Rattle.merge.specs.Steps.{lastSection, Back}
 use Rattle.table.proofs.State.{length-sections}
-use Rattle.merge.proofs.State.{written-self, sections-agree, sound-agree, written-more}
+use Rattle.merge.proofs.State.{written-self, written-more}
+use Rattle.table.proofs.State.{sections-agree, sound-agree}
 use Rattle.merge.proofs.Walk.{length-back, any-back, merge-none}
 
 -- the sections of i and j records are still to be written, at the first k places of s; then s₀ has become what it is to be
@@ -64,14 +65,14 @@ module _ {s₀ : List ℕ} {g : ℕ} {s′ : List ℕ} {g′ : ℕ} {s : List �
       inside = omega (arith, under, long₁, t .fits)
 
       still : mergeSections s₁ (e .i) s′ (e .j) ≡ mergeSections s (e .i) s′ (e .j)
-      still = ap (λ (x : List Section). merged x (sections s′ (e .j))) (sections-agree s₁ s (e .i) same long₁ inside)
+      still = ap (λ (x : List Section). merged x (sections s′ (e .j))) (sections-agree s₁ s (e .i) same inside (rw (← long₁) inside))
 
       put : s₁ ≡ sets s (length (mergeSections s (e .i) s′ (e .j)) * 64) (encode (recordOf (lastSection s i s′ j e)))
       put = q ∙ ap₂ (λ (m : ℕ) (x : Record). sets s (m * 64) (encode x)) n p
 
       pub left-less : AreBytes s₁ → Left s₀ g s′ g′ s₁ (e .i) (e .j) (k - 1)
       left-less h = record {
-        sound₁ = sound-agree s₁ s (e .i) same long₁ inside (b .sound₁);
+        sound₁ = sound-agree s₁ s (e .i) same inside (rw (← long₁) inside) (b .sound₁);
         sound₂ = b .sound₂;
         groups = n ∙ ap length (sym still);
         fits = omega (arith, long₁, t .fits);

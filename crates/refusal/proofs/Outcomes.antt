@@ -7,7 +7,7 @@ use native.Mathlib.Omega.{arith}
 use borrow.Author.Tests.{ltb-true}
 use lib.Dec.{eqb, ltb}
 use Rattle.lists.proofs.Booleans.{and-true, or-false}
-use Rattle.refusal.specs.Outcome.{Outcome, accepted, refused, Ground, outcome, condition, isRefusal, isGround}
+use Rattle.refusal.specs.Outcome.{accepted, refused, Ground, outcome, condition, isRefusal, isGround}
 
 pub accepted≢refused : {A : Type 0} {x : A} {n : ℕ} → refused n ≡ accepted x → ⊥
 accepted≢refused e = let z : _≡_ {A = ℕ} 0 1 = cc in omega arith

@@ -1,15 +1,14 @@
 -- The report of a file is at most 4,096 bytes long: its head line has 29, and each of at most 64 lines at most 58.
-use Prim.Native.Nat.{ℕ, suc, _+_, _-_, _*_, _^_, _<_, _≤_}
-use mathlib.Core.Path.{_≡_, refl, sym, ap, _∙_}
+use Prim.Native.Nat.{ℕ, suc, _-_, _*_, _^_, _<_, _≤_}
+use mathlib.Core.Path.{_≡_, refl}
 use mathlib.Core.Bool.{Bool, true, false, cond}
 use mathlib.Core.List.{List, [], _∷_, _++_}
 use mathlib.Core.Option.{some}
-use native.Mathlib.Nat.{le-trans}
 use native.Mathlib.Omega.{arith}
 use borrow.Author.Tests.{ltb-false}
 use lib.IntN.{ℤ, pos, negsuc}
 use lib.Ieee.{binary64, toBits}
-use lib.ListN.{length, take, drop, length-append}
+use lib.ListN.{length, drop, length-append}
 use Rattle.codec.specs.Cells.{image}
 use Rattle.codec.proofs.Laws.{AreBytes, take-bytes, drop-bytes}
 use Rattle.refusal.specs.Outcome.{Outcome, accepted, refused}
@@ -19,7 +18,7 @@ use Rattle.columns.specs.declared.Kind.the-variants.{Double}
 use Rattle.patch.specs.File.{rowCount, keyDistance, readGrounds, readOutcome, keyColumn, valueColumn}
 use Rattle.patch.proofs.File.{key-column}
 use Rattle.record.specs.Section.{Section, kept}
-use Rattle.table.specs.Calls.{columnGrounds, addGrounds, addSections, addOutcome, addLeaves}
+use Rattle.table.specs.Calls.{columnGrounds, addGrounds, addSections, addOutcome}
 use Rattle.table.proofs.Bytes.{Fits}
 use Rattle.finish.specs.Sum.{nearestDouble, tooLarge}
 use Rattle.finish.specs.Figure.{beyond}

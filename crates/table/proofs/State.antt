@@ -9,7 +9,7 @@ use lib.IntN.{pos}
 use lib.ListN.{length, take, drop, length-map}
 use Rattle.codec.specs.Cells.{cells, image}
 use Rattle.codec.proofs.Laws.{AreBytes, drop-bytes, take-bytes, numberAt-lt}
-use Rattle.codec.proofs.Cells.{length-cells, image-cells}
+use Rattle.codec.proofs.Cells.{length-cells, cells-take, image-cells}
 use Rattle.level.specs.declared.Held.{Held}
 use Rattle.level.specs.Carry.{totalOf}
 use Rattle.level.proofs.Carry.{held-total}
@@ -118,3 +118,18 @@ image-map (t ∷ ts) = ap (λ (l : List ℕ). encode (recordOf t) ++ l) (image-m
 pub used-bytes : (s : List ℕ) (g : ℕ) → T (sound s g) → AreBytes s → take (g * 64) s ≡ sectionBytes (sections s g)
 used-bytes s g ok b =
     sym (image-map (sections s g) ∙ ap (image encode) (sound-records-of s g ok) ∙ image-cells 64 encode decode encode-decode g s (sound-parts s g ok .0) b)
+
+-- ---- tables whose used bytes agree
+module _ (s t : List ℕ) (g : ℕ) (same : take (g * 64) s ≡ take (g * 64) t) (long : g * 64 ≤ length s) (long′ : g * 64 ≤ length t) where
+  records-agree : records s g ≡ records t g
+  records-agree = sym (cells-take 64 decode g s long) ∙ ap (cells 64 decode g) same ∙ cells-take 64 decode g t long′
+
+  pub sections-agree : sections s g ≡ sections t g
+  sections-agree = ap (map meaning) records-agree
+
+  pub sound-agree : T (sound t g) → T (sound s g)
+  sound-agree ok =
+      let p = sound-parts t g ok in
+      sound-made s g long (p .1)
+      (subst (λ (rs : List Record). T (rising (keys rs))) (sym records-agree) (p .2))
+      (subst (λ (rs : List Record). T (soundRecords rs)) (sym records-agree) (p .3))
