@@ -1,4 +1,5 @@
--- The sum is the double nearest to the kept value among all finite doubles.
+-- The sum is the double nearest to the kept value among all finite doubles. The idea: every finite double is m × 2^j units with m below 2^53; one with fewer
+-- zeros than the sum's unit is smaller than any number of 53 digits of that unit, so farther away, and any other is a whole number of that unit.
 use mathlib.Core.Path.{_≡_, refl, sym, ap, ap₂, _∙_, subst}
 use mathlib.Core.Logic.{_⊎_, inl, inr, ⊎-elim}
 use mathlib.Core.Bool.{Bool, true, false, not, cond}
@@ -15,7 +16,6 @@ use lib.Ieee.{Float, nan, inf, fin, binary64, down, ofBits, toBits, round}
 use lib.Ieee.Bits.{ofBits-toBits, toBits-lt, is-true}
 use lib.Ieee.Fits.{down-pos, round-fits}
 use lib.Ieee.Exact.{HasValue}
-use lib.Ieee.Nearest.{closest}
 use lib.Ieee.Scale as Scale
 use Rattle.integers.proofs.Diff.{ints}
 use Rattle.level.specs.Double.{field, fraction, significand, size, negative, finite, signed, value}
@@ -25,8 +25,11 @@ use Rattle.level.proofs.Double.{significand-lt}
 use Rattle.level.proofs.Near.{closest-cases, pow-sum}
 use Rattle.level.proofs.Binary64.{finite-binary64, value-binary64}
 use Rattle.finish.specs.Sum.{limit, nearestDouble, tooLarge, Nearest}
-use Rattle.finish.specs.Limbs.{dropped, nearby}
-use Rattle.finish.proofs.Pattern.{le-or-lt, reaches, limit-value, limit-number, limit-finite, pattern-bits}
+use Rattle.limbs.specs.Nearest.{odd, nearestBy}
+use Rattle.limbs.specs.Packed.{droppedDigits, significandOf}
+use Rattle.limbs.proofs.Nearest.{le-or-lt, closest-odd}
+use Rattle.limbs.proofs.Packed.{reaches, packed-bits}
+use Rattle.finish.proofs.Limit.{limit-value, limit-number, limit-finite}
 
 -- ---- the number of units nearest to n among all numbers of units
 
@@ -65,53 +68,53 @@ tie-near u q r x zero h e l = let m = down-near u q r x h (omega arith) in omega
 tie-near u q r x (suc zero) h e l = let m = up-near u q r x h (omega arith) in omega arith
 tie-near u q r x (suc (suc b)) h e l = absurd (lt-irrefl 0 (omega arith))
 
-pub closest-best : (n u x : ℕ) → 0 < u → Best n u x (closest n u)
-closest-best n u x h =
+nearest-best : (n u x : ℕ) → 0 < u → Best n u x (nearestBy odd n u)
+nearest-best n u x h =
     let e = div-add-mod' n u in
     let r = n % u in
     let q = n / u in
     let l : n % u < u = mod-lt n h in
-    closest-cases (Best n u x) n u
+    subst (Best n u x) (closest-odd n u) (closest-cases (Best n u x) n u
     (λ g. subst (λ (m : ℕ). Best m u x q) e (down-near u q r x l (omega arith), λ d f. absurd (below-far u q r x l g d f)))
     (λ g. subst (λ (m : ℕ). Best m u x (q + q % 2)) e (tie-near u q r x (q % 2) l g (omega arith), λ d f. omega arith))
-    (λ g. subst (λ (m : ℕ). Best m u x (suc q)) e (up-near u q r x l (omega arith), λ d f. absurd (above-far u q r x l g d f)))
+    (λ g. subst (λ (m : ℕ). Best m u x (suc q)) e (up-near u q r x l (omega arith), λ d f. absurd (above-far u q r x l g d f))))
 
 -- ---- among all m × 2^j with m of at most 53 digits
 
 -- a number of fewer digits than n keeps is farther away than 2^52 of the units that n is rounded to
-fewer : (n m j : ℕ) → m < 2 ^ 53 → j < dropped n → apart n (nearby n * 2 ^ dropped n) < apart n (m * 2 ^ j)
+fewer : (n m j : ℕ) → m < 2 ^ 53 → j < droppedDigits n → apart n (significandOf n * 2 ^ droppedDigits n) < apart n (m * 2 ^ j)
 fewer n m j h l =
-    let d = dropped n in
+    let d = droppedDigits n in
     let w : 2 ^ 52 * 2 ^ d ≤ n = le-div-iff-mul-le (pow-pos d) .0 (reaches n (omega arith)) in
     let v : m * 2 ^ j < 2 ^ 53 * 2 ^ j = mul-lt-mul-of-pos-right h (pow-pos j) in
     let k : 53 + j ≤ 52 + d = omega arith in
     let t : 2 ^ 53 * 2 ^ j ≤ 2 ^ 52 * 2 ^ d = le-trans (le-of-eq (sym (pow-add 2 53 j))) (le-trans (pow-mono k) (le-of-eq (pow-add 2 52 d))) in
-    let b = closest-best n (2 ^ d) (2 ^ 52) (pow-pos d) .0 in
-    less n (m * 2 ^ j) (2 ^ 53 * 2 ^ j) (2 ^ 52 * 2 ^ d) (apart n (nearby n * 2 ^ d)) v t w b
+    let b = nearest-best n (2 ^ d) (2 ^ 52) (pow-pos d) .0 in
+    less n (m * 2 ^ j) (2 ^ 53 * 2 ^ j) (2 ^ 52 * 2 ^ d) (apart n (significandOf n * 2 ^ d)) v t w b
   where
     less : (n a b c x : ℕ) → a < b → b ≤ c → c ≤ n → x ≤ apart n c → x < apart n a
     less n a b c x h k l m = omega arith
 
 -- a number of as many or more zeros is a number of those units
-module _ (n m j : ℕ) (l : dropped n ≤ j) where
-  same-unit : m * 2 ^ (j - dropped n) * 2 ^ dropped n ≡ m * 2 ^ j
-  same-unit = mul-assoc m (2 ^ (j - dropped n)) (2 ^ dropped n) ∙ ap (λ (x : ℕ). m * x) (pow-sum (j - dropped n) (dropped n) j (omega arith))
+module _ (n m j : ℕ) (l : droppedDigits n ≤ j) where
+  same-unit : m * 2 ^ (j - droppedDigits n) * 2 ^ droppedDigits n ≡ m * 2 ^ j
+  same-unit = mul-assoc m (2 ^ (j - droppedDigits n)) (2 ^ droppedDigits n) ∙ ap (λ (x : ℕ). m * x) (pow-sum (j - droppedDigits n) (droppedDigits n) j (omega arith))
 
-  more : Best n (2 ^ dropped n) (m * 2 ^ (j - dropped n)) (nearby n)
-  more = closest-best n (2 ^ dropped n) (m * 2 ^ (j - dropped n)) (pow-pos (dropped n))
+  more : Best n (2 ^ droppedDigits n) (m * 2 ^ (j - droppedDigits n)) (significandOf n)
+  more = nearest-best n (2 ^ droppedDigits n) (m * 2 ^ (j - droppedDigits n)) (pow-pos (droppedDigits n))
 
-nearest-near : (n m j : ℕ) → m < 2 ^ 53 → apart n (nearby n * 2 ^ dropped n) ≤ apart n (m * 2 ^ j)
+nearest-near : (n m j : ℕ) → m < 2 ^ 53 → apart n (significandOf n * 2 ^ droppedDigits n) ≤ apart n (m * 2 ^ j)
 nearest-near n m j h =
-    ⊎-elim (λ l. le-trans (more n m j l .0) (le-of-eq (ap (apart n) (same-unit n m j l)))) (λ l. let g = fewer n m j h l in omega arith) (le-or-lt (dropped n) j)
+    ⊎-elim (λ l. le-trans (more n m j l .0) (le-of-eq (ap (apart n) (same-unit n m j l)))) (λ l. let g = fewer n m j h l in omega arith) (le-or-lt (droppedDigits n) j)
 
-nearest-even : (n m j : ℕ) → m < 2 ^ 53 → (m * 2 ^ j ≡ nearby n * 2 ^ dropped n → ⊥) → apart n (nearby n * 2 ^ dropped n) ≡ apart n (m * 2 ^ j) → nearby n % 2 ≡ 0
+nearest-even : (n m j : ℕ) → m < 2 ^ 53 → (m * 2 ^ j ≡ significandOf n * 2 ^ droppedDigits n → ⊥) → apart n (significandOf n * 2 ^ droppedDigits n) ≡ apart n (m * 2 ^ j) → significandOf n % 2 ≡ 0
 nearest-even n m j h d e =
     ⊎-elim
-    (λ l. more n m j l .1 (λ g. d (sym (same-unit n m j l) ∙ ap (λ (x : ℕ). x * 2 ^ dropped n) g)) (e ∙ ap (apart n) (sym (same-unit n m j l))))
+    (λ l. more n m j l .1 (λ g. d (sym (same-unit n m j l) ∙ ap (λ (x : ℕ). x * 2 ^ droppedDigits n) g)) (e ∙ ap (apart n) (sym (same-unit n m j l))))
     (λ l. absurd (farther (fewer n m j h l)))
-    (le-or-lt (dropped n) j)
+    (le-or-lt (droppedDigits n) j)
   where
-    farther : apart n (nearby n * 2 ^ dropped n) < apart n (m * 2 ^ j) → ⊥
+    farther : apart n (significandOf n * 2 ^ droppedDigits n) < apart n (m * 2 ^ j) → ⊥
     farther g = omega arith
 
 -- ---- with signs
@@ -132,7 +135,7 @@ by-sign false false = inl refl
 
 module _ (s : Bool) (n : ℕ) where
   abbrev size-of : ℕ
-  size-of = nearby n * 2 ^ dropped n
+  size-of = significandOf n * 2 ^ droppedDigits n
 
   near-signed : (t : Bool) (m j : ℕ) → m < 2 ^ 53 → natAbs (signed s n -ℤ signed s size-of) ≤ natAbs (signed s n -ℤ signed t (m * 2 ^ j))
   near-signed t m j h =
@@ -156,17 +159,17 @@ module _ (s : Bool) (n : ℕ) where
       zeros true = refl
       zeros false = refl
 
-  even-signed : (t : Bool) (m j : ℕ) → m < 2 ^ 53 → (signed t (m * 2 ^ j) ≡ signed s size-of → ⊥) → natAbs (signed s n -ℤ signed s size-of) ≡ natAbs (signed s n -ℤ signed t (m * 2 ^ j)) → nearby n % 2 ≡ 0
+  even-signed : (t : Bool) (m j : ℕ) → m < 2 ^ 53 → (signed t (m * 2 ^ j) ≡ signed s size-of → ⊥) → natAbs (signed s n -ℤ signed s size-of) ≡ natAbs (signed s n -ℤ signed t (m * 2 ^ j)) → significandOf n % 2 ≡ 0
   even-signed t m j h d e =
       let e′ : apart n size-of ≡ natAbs (signed s n -ℤ signed t (m * 2 ^ j)) = sym (same-sign s n size-of) ∙ e in
       ⊎-elim (λ g. same g e′) (λ g. other g e′) (by-sign s t)
     where
-      same : t ≡ s → apart n size-of ≡ natAbs (signed s n -ℤ signed t (m * 2 ^ j)) → nearby n % 2 ≡ 0
+      same : t ≡ s → apart n size-of ≡ natAbs (signed s n -ℤ signed t (m * 2 ^ j)) → significandOf n % 2 ≡ 0
       same g f =
           nearest-even n m j h (λ k. d (ap₂ (λ (x : Bool) (y : ℕ). signed x y) g k))
           (f ∙ ap (λ (x : Bool). natAbs (signed s n -ℤ signed x (m * 2 ^ j))) g ∙ same-sign s n (m * 2 ^ j))
 
-      other : t ≡ not s → apart n size-of ≡ natAbs (signed s n -ℤ signed t (m * 2 ^ j)) → nearby n % 2 ≡ 0
+      other : t ≡ not s → apart n size-of ≡ natAbs (signed s n -ℤ signed t (m * 2 ^ j)) → significandOf n % 2 ≡ 0
       other g f =
           let a : apart n size-of ≡ n + m * 2 ^ j = f ∙ ap (λ (x : Bool). natAbs (signed s n -ℤ signed x (m * 2 ^ j))) g ∙ other-sign s n (m * 2 ^ j) in
           let b = nearest-near n 0 0 (pow-pos 53) in
@@ -206,13 +209,13 @@ module _ (s : Bool) (n : ℕ) (h : n < limit) where
   bits-finite : finite bits ≡ true
   bits-finite = sym (finite-binary64 bits) ∙ ap Scale.finite back ∙ is-true (Scale.finite x) (limit-number s n h)
 
-  bits-value : (negative bits ≡ s) × (size bits ≡ nearby n * 2 ^ dropped n)
+  bits-value : (negative bits ≡ s) × (size bits ≡ significandOf n * 2 ^ droppedDigits n)
   bits-value =
-      unique x s (negative bits) (nearby n * 2 ^ dropped n) (size bits) (limit-value s n h)
+      unique x s (negative bits) (significandOf n * 2 ^ droppedDigits n) (size bits) (limit-value s n h)
       (subst (λ (y : Float). HasValue y (negative bits) (size bits) (2 ^ 1074)) back (value-binary64 bits (toBits-lt binary64 x (round-fits binary64 s n (2 ^ 1074))) bits-finite))
 
-  bits-even : nearby n % 2 ≡ 0 → significand bits % 2 ≡ 0
-  bits-even e = significand-even bits (ap (λ (b : ℕ). b % 2) (pattern-bits s n (limit-finite n h)) ∙ pattern-even s (dropped n) (nearby n) e)
+  bits-even : significandOf n % 2 ≡ 0 → significand bits % 2 ≡ 0
+  bits-even e = significand-even bits (ap (λ (b : ℕ). b % 2) (packed-bits s n (limit-finite n h)) ∙ pattern-even s (droppedDigits n) (significandOf n) e)
 
 size-sign : (k : ℤ) → k ≡ signed (not (nonNeg k)) (natAbs k)
 size-sign (pos n) = refl
@@ -225,8 +228,8 @@ nearest-double k e =
     let n = natAbs k in
     let h : n < limit = leb-false limit n e in
     let b = bits s n h in
-    let v : value b ≡ signed s (nearby n * 2 ^ dropped n) = ap₂ (λ (t : Bool) (a : ℕ). signed t a) (bits-value s n h .0) (bits-value s n h .1) in
-    let d : natAbs (k -ℤ value b) ≡ natAbs (signed s n -ℤ signed s (nearby n * 2 ^ dropped n)) = ap₂ (λ (x y : ℤ). natAbs (x -ℤ y)) (size-sign k) v in
+    let v : value b ≡ signed s (significandOf n * 2 ^ droppedDigits n) = ap₂ (λ (t : Bool) (a : ℕ). signed t a) (bits-value s n h .0) (bits-value s n h .1) in
+    let d : natAbs (k -ℤ value b) ≡ natAbs (signed s n -ℤ signed s (significandOf n * 2 ^ droppedDigits n)) = ap₂ (λ (x y : ℤ). natAbs (x -ℤ y)) (size-sign k) v in
     let f : (c : ℕ) → natAbs (signed s n -ℤ value c) ≡ natAbs (k -ℤ value c) = λ c. ap (λ (x : ℤ). natAbs (x -ℤ value c)) (sym (size-sign k)) in
     record {
       number = bits-finite s n h;

@@ -1,5 +1,5 @@
 -- The figure and the line, from the sum.
-use mathlib.Core.Path.{_≡_, refl, ap, subst}
+use mathlib.Core.Path.{_≡_, refl, sym, ap, subst}
 use mathlib.Core.Bool.{Bool, true, false, cond}
 use mathlib.Core.List.{List, [], _∷_}
 use mathlib.Core.Option.{Option, none, some}
@@ -15,7 +15,7 @@ use Rattle.record.specs.Sound.{sound, soundRecord}
 use Rattle.record.specs.Section.{Section, kept, meaning, sections, find}
 use Rattle.finish.specs.Sum.{nearestDouble, tooLarge}
 use Rattle.finish.specs.Figure.{beyond}
-use Rattle.finish.specs.Finish.{sumOf, figureFor, figureOf, lineFor, lineOf, finishing, sumOutcome}
+use Rattle.finish.specs.Finish.{sumOf, figureFor, figureOf, lineFor, lineOf, finishing, sumOutcome, figureOutcome}
 use Rattle.finish.specs.Answer.{sumAnswer}
 use Rattle.finish.specs.Steps.{LookedUp, sumFor, FiniteSum, figureBy, lineBy}
 use Rattle.record.specs.declared.Record.{Record}
@@ -29,59 +29,56 @@ use Rattle.finish.proofs.Sums.{nearest-finite}
 pub never : {A : Type 0} → _≡_ {A = ℕ} 0 1 → A
 never e = absurd (lt-irrefl 0 (omega arith))
 
--- ---- the sum
+-- ---- by whether the kept value is too large; where it is not, its sum is finite
+
+by-size : (k : ℤ) (P : Bool → Type 0) → P true → (T (finite (nearestDouble k)) → P false) → P (tooLarge k)
+by-size k P large small = go (tooLarge k) (nearest-finite k)
+  where
+    go : (b : Bool) → (b ≡ false → T (finite (nearestDouble k))) → P b
+    go true h = large
+    go false h = small (h refl)
+
+-- the sum of a section that is there, with b for whether it is too large
+abbrev sumBy : Section → Bool → Outcome Float
+sumBy s b = cond b (refused 14) (accepted (nearestDouble (kept s)))
 
 pub sum-for : (s : Section) → sumAnswer (sumFor (kept s)) ≡ sumOf (some s)
-sum-for s = by (tooLarge (kept s))
-  where
-    by : (b : Bool) → sumAnswer (cond b TooLarge (Finite (nearestDouble (kept s)))) ≡ cond b (refused 14) (accepted (nearestDouble (kept s)))
-    by true = refl
-    by false = refl
+sum-for s = by-size (kept s) (λ (b : Bool). sumAnswer (cond b TooLarge (Finite (nearestDouble (kept s)))) ≡ sumBy s b) refl (λ f. refl)
 
 pub finite-for : (k : ℤ) → FiniteSum (sumFor k)
-finite-for k = by (tooLarge k) (nearest-finite k)
-  where
-    by : (b : Bool) → (b ≡ false → T (finite (nearestDouble k))) → FiniteSum (cond b TooLarge (Finite (nearestDouble k)))
-    by true h = tt
-    by false h = h refl
+finite-for k = by-size k (λ (b : Bool). FiniteSum (cond b TooLarge (Finite (nearestDouble k)))) tt (λ f. f)
+
+pub figure-by : (o : Option Section) → figureOf o ≡ figureBy (sumOf o)
+figure-by none = refl
+figure-by (some s) = by-size (kept s) (λ (b : Bool). cond b (refused 14) (outcome (ground 15 (beyond (figureFor s)) ∷ []) (figureFor s)) ≡ figureBy (sumBy s b)) refl (λ f. refl)
+
+pub line-by : (s : Section) → lineOf (some s) ≡ lineBy (s .key) (s .count) (sumOf (some s))
+line-by s = by-size (kept s) (λ (b : Bool). cond b (refused 14) (outcome (ground 15 (beyond (figureFor s)) ∷ []) (lineFor s)) ≡ lineBy (s .key) (s .count) (sumBy s b)) refl (λ f. refl)
+
+-- ---- on a table
 
 -- a float that a sum gives is finite
-sum-finite : (o : Option Section) (x : Float) → accepted x ≡ sumOf o → T (finite x)
-sum-finite none x e = never (cc)
-sum-finite (some s) x e = by (tooLarge (kept s)) (nearest-finite (kept s)) e
-  where
-    by : (b : Bool) → (b ≡ false → T (finite (nearestDouble (kept s)))) → accepted x ≡ cond b (refused 14) (accepted (nearestDouble (kept s))) → T (finite x)
-    by true h e = never (cc)
-    by false h e = let q : x ≡ nearestDouble (kept s) = cc in rw q (h refl)
-
 pub finite-outcome : (a : SectionSum) (s : List ℕ) (g k : ℕ) → sumAnswer a ≡ sumOutcome s g k → FiniteSum a
 finite-outcome Absent s g k e = tt
 finite-outcome TooLarge s g k e = tt
 finite-outcome NotSound s g k e = tt
-finite-outcome (Finite x) s g k e = by (sound s g) e
+finite-outcome (Finite x) s g k e = by (sound s g) (find k (sections s g)) e
   where
-    by : (b : Bool) → accepted x ≡ cond b (sumOf (find k (sections s g))) (refused 7) → T (finite x)
-    by true e = sum-finite (find k (sections s g)) x e
-    by false e = never (cc)
+    by : (b : Bool) (o : Option Section) → accepted x ≡ cond b (sumOf o) (refused 7) → T (finite x)
+    by false o e = never (cc)
+    by true none e = never (cc)
+    by true (some s) e =
+        by-size (kept s) (λ (b : Bool). accepted x ≡ sumBy s b → T (finite x)) (λ e. never (cc)) (λ f e. let q : x ≡ nearestDouble (kept s) = cc in rw q f) e
 
--- ---- the figure
-
-pub figure-by : (o : Option Section) → figureOf o ≡ figureBy (sumOf o)
-figure-by none = refl
-figure-by (some s) = by (tooLarge (kept s))
+-- a figure is that of the sum
+pub figure-outcome : (s : List ℕ) (g k : ℕ) → figureBy (sumOutcome s g k) ≡ figureOutcome s g k
+figure-outcome s g k = by (sound s g) (find k (sections s g))
   where
-    by : (b : Bool) → cond b (refused 14) (outcome (ground 15 (beyond (figureFor s)) ∷ []) (figureFor s)) ≡ figureBy (cond b (refused 14) (accepted (nearestDouble (kept s))))
-    by true = refl
-    by false = refl
+    by : (b : Bool) (o : Option Section) → figureBy (cond b (sumOf o) (refused 7)) ≡ cond b (figureOf o) (refused 7)
+    by true o = sym (figure-by o)
+    by false o = refl
 
--- ---- the line
-
-pub line-by : (s : Section) → lineOf (some s) ≡ lineBy (s .key) (s .count) (sumOf (some s))
-line-by s = by (tooLarge (kept s))
-  where
-    by : (b : Bool) → cond b (refused 14) (outcome (ground 15 (beyond (figureFor s)) ∷ []) (lineFor s)) ≡ lineBy (s .key) (s .count) (cond b (refused 14) (accepted (nearestDouble (kept s))))
-    by true = refl
-    by false = refl
+-- ---- the line of a figure
 
 -- a figure that is given, and one that is refused, with what is made of it
 pub given : {A : Type 0} (f : ℤ → A) (b : Bool) (x z : ℤ) → accepted z ≡ cond b (refused 15) (accepted x) → accepted (f z) ≡ cond b (refused 15) (accepted (f x))

@@ -7,8 +7,10 @@ ghost use Rattle.limbs.specs.Limbs.{valueOf, Normal, Carried, Difference
 ghost use Rattle.limbs.specs.Nearest.{rounded};
 ghost use Rattle.limbs.specs.Packed.{leadingDigits, packed, unitsOf};
 
-const LIMB: u64 = 1 << 40;
+// What a limb stays below.
+pub const LIMB: u64 = 1 << 40;
 
+// The largest limb.
 const LARGEST: u64 = (1 << 40) - 1;
 
 // The same number with 40 digits in each of the first three limbs.
