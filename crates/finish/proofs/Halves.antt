@@ -47,11 +47,11 @@ up-at u =
 -- ---- the figure of a size n with the sign s is within
 
 size-within : (s : Bool) (n u : ℕ) → 0 < u → Within u (signed s n) (signed s (nearestBy (λ (q : ℕ). not s) n u))
-size-within false n u p = let d = nearest-within true n u p in above-zero n (nearestBy (λ (q : ℕ). true) n u) (d .0) (d .1)
+size-within false n u p = let d = nearest-within (λ (q : ℕ). true) n u p in above-zero n (nearestBy (λ (q : ℕ). true) n u) (d .0) (d .1)
   where
     above-zero : (n q : ℕ) → q * u * 2 ≤ n * 2 + u → n * 2 < q * u * 2 + u → Within u (pos n) (pos q)
     above-zero n q l h = simp (ints, add-zero) (omega arith, omega arith)
-size-within true n u p = let d = nearest-within false n u p in below-zero n (nearestBy (λ (q : ℕ). false) n u) (d .0) (d .1)
+size-within true n u p = let d = nearest-within (λ (q : ℕ). false) n u p in below-zero n (nearestBy (λ (q : ℕ). false) n u) (d .0) (d .1)
   where
     below-zero : (n q : ℕ) → q * u * 2 < n * 2 + u → n * 2 ≤ q * u * 2 + u → Within u (negℤ (pos n)) (negℤ (pos q))
     below-zero n q l h = simp (ints, mul-zero, add-zero, zero-add) (omega arith, omega arith)

@@ -1,4 +1,5 @@
--- The size of a mill figure: one rounding of natural numbers, in range or beyond, and as an i32.
+-- The size of a mill figure, in range or beyond, and as an i32. The idea: equal fractions have the same nearest number, so the places below 1 may be cut to those
+-- that the significand has.
 use mathlib.Core.Path.{_≡_, sym, ap, ap₂, _∙_}
 use mathlib.Core.Bool.{Bool, true, false, cond}
 use Prim.Native.Nat.{ℕ, zero, suc, _+_, _-_, _*_, _/_, _%_, _^_, _≤_, _<_, compare, Ordering}

@@ -1,4 +1,5 @@
--- The bound of document 01's condition 14, 2^1024 - 2^970 in size: from it on, and only then, rounding gives an infinity.
+-- From document 01's bound of 14 on, and only then, rounding gives an infinity. The idea: nearest numbers rise with the fraction, so the bound itself and
+-- the number below it decide for all, and `antt` computes those two.
 use mathlib.Core.Path.{_≡_, refl, sym, ap, _∙_}
 use mathlib.Core.Logic.{_⊎_, inl, inr, ⊎-elim}
 use mathlib.Core.Bool.{Bool, true, false}
@@ -12,9 +13,9 @@ use lib.Ieee.Digits.{size-lt, size-le}
 use lib.Ieee.Exact.{HasValue}
 use lib.Ieee.Scale.{finite}
 use lib.Ieee.Nearest.{closest, closest-mono}
-use Rattle.limbs.specs.Packed.{droppedDigits, significandOf, packed}
+use Rattle.limbs.specs.Packed.{droppedDigits, significandOf, packed, infinite, signBit}
 use Rattle.limbs.proofs.Nearest.{le-or-lt, closest-odd}
-use Rattle.limbs.proofs.Packed.{sign, infinite, significand-le, significand-ge, packed-bits, packed-inf, packed-finite}
+use Rattle.limbs.proofs.Packed.{significand-le, significand-ge, packed-bits, packed-inf, packed-finite}
 use Rattle.finish.specs.Sum.{limit}
 
 size-at-limit : (n : ℕ) → limit ≤ n → 2045 ≤ droppedDigits n
@@ -58,11 +59,11 @@ limit-finite n h = ⊎-elim (λ e. at e) (λ g. before (significand-le n) g) (eq
 pub limit-inf : (s : Bool) (n : ℕ) → limit ≤ n → round binary64 s n (2 ^ 1074) ≡ inf s
 limit-inf s n h = packed-inf s n (limit-infinite n h)
 
-inf-bits : (t : Bool) → toBits binary64 (inf t) ≡ sign t + infinite
+inf-bits : (t : Bool) → toBits binary64 (inf t) ≡ signBit t + infinite
 unfolding toBits
 inf-bits t = refl
 
-no-inf : (s t : Bool) (p : ℕ) → p < infinite → sign s + p ≡ sign t + infinite → ⊥
+no-inf : (s t : Bool) (p : ℕ) → p < infinite → signBit s + p ≡ signBit t + infinite → ⊥
 no-inf true true p h e = omega arith
 no-inf true false p h e = omega arith
 no-inf false true p h e = omega arith

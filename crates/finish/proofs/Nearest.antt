@@ -3,8 +3,8 @@
 use mathlib.Core.Path.{_≡_, refl, sym, ap, ap₂, _∙_, subst}
 use mathlib.Core.Logic.{_⊎_, inl, inr, ⊎-elim}
 use mathlib.Core.Bool.{Bool, true, false, not, cond}
-use Prim.Native.Nat.{ℕ, zero, suc, _+_, _-_, _*_, _/_, _%_, _^_, _≤_, _<_}
-use native.Mathlib.Nat.{le-trans, le-of-eq, lt-irrefl, mul-assoc, mul-le-mul-right, mul-lt-mul-of-pos-right, eq-of-mul-eq-mul-right, mod-lt, div-add-mod', le-div-iff-mul-le}
+use Prim.Native.Nat.{ℕ, suc, _+_, _-_, _*_, _%_, _^_, _≤_, _<_}
+use native.Mathlib.Nat.{le-trans, le-of-eq, eq-or-lt-of-le, mul-assoc, mul-le-mul-right, mul-lt-mul-of-pos-right, eq-of-mul-eq-mul-right, le-div-iff-mul-le}
 use native.Mathlib.Omega.{arith}
 use borrow.Author.Tests.{leb-false}
 use lib.Dec.{ltb, eqb}
@@ -22,12 +22,12 @@ use Rattle.level.specs.Double.{field, fraction, significand, size, negative, fi
 use Rattle.level.specs.Cut.{apart}
 use Rattle.level.proofs.Signs.{sub-signed, natAbs-signed}
 use Rattle.level.proofs.Double.{significand-lt}
-use Rattle.level.proofs.Near.{closest-cases, pow-sum}
+use Rattle.level.proofs.Near.{pow-sum}
 use Rattle.level.proofs.Binary64.{finite-binary64, value-binary64}
 use Rattle.finish.specs.Sum.{limit, nearestDouble, tooLarge, Nearest}
 use Rattle.limbs.specs.Nearest.{odd, nearestBy}
-use Rattle.limbs.specs.Packed.{droppedDigits, significandOf}
-use Rattle.limbs.proofs.Nearest.{le-or-lt, closest-odd}
+use Rattle.limbs.specs.Packed.{droppedDigits, significandOf, signBit}
+use Rattle.limbs.proofs.Nearest.{le-or-lt, Halfway, nearest-near, nearest-even}
 use Rattle.limbs.proofs.Packed.{reaches, packed-bits}
 use Rattle.finish.proofs.Limit.{limit-value, limit-number, limit-finite}
 
@@ -37,47 +37,26 @@ use Rattle.finish.proofs.Limit.{limit-value, limit-number, limit-finite
 abbrev Best : ℕ → ℕ → ℕ → ℕ → Type 0
 Best n u x y = (apart n (y * u) ≤ apart n (x * u)) × ((x ≡ y → ⊥) → apart n (y * u) ≡ apart n (x * u) → y % 2 ≡ 0)
 
-module _ (u q r x : ℕ) (h : r < u) where
-  -- the multiples at most q, and those above
-  low : x ≤ q → x * u ≤ q * u
-  low l = mul-le-mul-right u l
+-- y units are at most half a unit from n
+module _ (n u x y : ℕ) (p : 0 < u) (over : y * u * 2 ≤ n * 2 + u) (under : n * 2 ≤ y * u * 2 + u) where
+  near-best : apart n (y * u) ≤ apart n (x * u)
+  near-best =
+      ⊎-elim
+      (λ g. ⊎-elim (λ e. let m : x * u ≡ y * u = ap (λ (z : ℕ). z * u) e in omega arith) (λ l. let m : suc x * u ≤ y * u = mul-le-mul-right u l in omega arith) (eq-or-lt-of-le g))
+      (λ l. let m : suc y * u ≤ x * u = mul-le-mul-right u l in omega arith)
+      (le-or-lt x y)
 
-  high : q < x → q * u + u ≤ x * u
-  high l = let m : suc q * u ≤ x * u = mul-le-mul-right u l in omega arith
-
-  down-near : r * 2 ≤ u → apart (q * u + r) (q * u) ≤ apart (q * u + r) (x * u)
-  down-near l = ⊎-elim (λ g. let m = low g in omega arith) (λ g. let m = high g in omega arith) (le-or-lt x q)
-
-  up-near : u ≤ r * 2 → apart (q * u + r) (suc q * u) ≤ apart (q * u + r) (x * u)
-  up-near l = ⊎-elim (λ g. let m = low g in omega arith) (λ g. let m = high g in omega arith) (le-or-lt x q)
-
-below-far : (u q r x : ℕ) → r < u → r * 2 < u → (x ≡ q → ⊥) → apart (q * u + r) (q * u) ≡ apart (q * u + r) (x * u) → ⊥
-below-far u q r x h l n e = ⊎-elim (λ g. under g) (λ g. let m = high u q r x h g in omega arith) (le-or-lt x q)
-  where
-    under : x ≤ q → ⊥
-    under g = let k : x < q = lt-of-le-ne g n in let m = high u x r q h k in omega arith
-
-above-far : (u q r x : ℕ) → r < u → u < r * 2 → (x ≡ suc q → ⊥) → apart (q * u + r) (suc q * u) ≡ apart (q * u + r) (x * u) → ⊥
-above-far u q r x h l n e = ⊎-elim (λ g. let m = low u q r x h g in omega arith) (λ g. over g) (le-or-lt x q)
-  where
-    over : q < x → ⊥
-    over g = let k : suc q < x = lt-of-le-ne g (λ f. n (sym f)) in let m = high u (suc q) r x h k in omega arith
-
-tie-near : (u q r x b : ℕ) → r < u → r * 2 ≡ u → b < 2 → apart (q * u + r) ((q + b) * u) ≤ apart (q * u + r) (x * u)
-tie-near u q r x zero h e l = let m = down-near u q r x h (omega arith) in omega arith
-tie-near u q r x (suc zero) h e l = let m = up-near u q r x h (omega arith) in omega arith
-tie-near u q r x (suc (suc b)) h e l = absurd (lt-irrefl 0 (omega arith))
+  half-best : (x ≡ y → ⊥) → apart n (y * u) ≡ apart n (x * u) → Halfway n u y
+  half-best d e =
+      ⊎-elim
+      (λ g. let m : suc x * u ≤ y * u = mul-le-mul-right u (lt-of-le-ne g d) in inl (omega arith))
+      (λ l. let m : suc y * u ≤ x * u = mul-le-mul-right u l in inr (omega arith))
+      (le-or-lt x y)
 
 nearest-best : (n u x : ℕ) → 0 < u → Best n u x (nearestBy odd n u)
 nearest-best n u x h =
-    let e = div-add-mod' n u in
-    let r = n % u in
-    let q = n / u in
-    let l : n % u < u = mod-lt n h in
-    subst (Best n u x) (closest-odd n u) (closest-cases (Best n u x) n u
-    (λ g. subst (λ (m : ℕ). Best m u x q) e (down-near u q r x l (omega arith), λ d f. absurd (below-far u q r x l g d f)))
-    (λ g. subst (λ (m : ℕ). Best m u x (q + q % 2)) e (tie-near u q r x (q % 2) l g (omega arith), λ d f. omega arith))
-    (λ g. subst (λ (m : ℕ). Best m u x (suc q)) e (up-near u q r x l (omega arith), λ d f. absurd (above-far u q r x l g d f))))
+    let w = nearest-near odd n u h in
+    (near-best n u x (nearestBy odd n u) h (w .0) (w .1), λ d e. nearest-even n u h (half-best n u x (nearestBy odd n u) h (w .0) (w .1) d e))
 
 -- ---- among all m × 2^j with m of at most 53 digits
 
@@ -103,12 +82,12 @@ module _ (n m j : ℕ) (l : droppedDigits n ≤ j) where
   more : Best n (2 ^ droppedDigits n) (m * 2 ^ (j - droppedDigits n)) (significandOf n)
   more = nearest-best n (2 ^ droppedDigits n) (m * 2 ^ (j - droppedDigits n)) (pow-pos (droppedDigits n))
 
-nearest-near : (n m j : ℕ) → m < 2 ^ 53 → apart n (significandOf n * 2 ^ droppedDigits n) ≤ apart n (m * 2 ^ j)
-nearest-near n m j h =
+digits-near : (n m j : ℕ) → m < 2 ^ 53 → apart n (significandOf n * 2 ^ droppedDigits n) ≤ apart n (m * 2 ^ j)
+digits-near n m j h =
     ⊎-elim (λ l. le-trans (more n m j l .0) (le-of-eq (ap (apart n) (same-unit n m j l)))) (λ l. let g = fewer n m j h l in omega arith) (le-or-lt (droppedDigits n) j)
 
-nearest-even : (n m j : ℕ) → m < 2 ^ 53 → (m * 2 ^ j ≡ significandOf n * 2 ^ droppedDigits n → ⊥) → apart n (significandOf n * 2 ^ droppedDigits n) ≡ apart n (m * 2 ^ j) → significandOf n % 2 ≡ 0
-nearest-even n m j h d e =
+digits-even : (n m j : ℕ) → m < 2 ^ 53 → (m * 2 ^ j ≡ significandOf n * 2 ^ droppedDigits n → ⊥) → apart n (significandOf n * 2 ^ droppedDigits n) ≡ apart n (m * 2 ^ j) → significandOf n % 2 ≡ 0
+digits-even n m j h d e =
     ⊎-elim
     (λ l. more n m j l .1 (λ g. d (sym (same-unit n m j l) ∙ ap (λ (x : ℕ). x * 2 ^ droppedDigits n) g)) (e ∙ ap (apart n) (sym (same-unit n m j l))))
     (λ l. absurd (farther (fewer n m j h l)))
@@ -141,8 +120,8 @@ module _ (s : Bool) (n : ℕ) where
   near-signed t m j h =
       le-trans (le-of-eq (same-sign s n size-of))
       (⊎-elim
-      (λ e. le-trans (nearest-near n m j h) (le-of-eq (sym (turned e ∙ same-sign s n (m * 2 ^ j)))))
-      (λ e. le-trans (nearest-near n 0 0 (pow-pos 53)) (le-trans (farther n (m * 2 ^ j)) (le-of-eq (sym (turned e ∙ other-sign s n (m * 2 ^ j))))))
+      (λ e. le-trans (digits-near n m j h) (le-of-eq (sym (turned e ∙ same-sign s n (m * 2 ^ j)))))
+      (λ e. le-trans (digits-near n 0 0 (pow-pos 53)) (le-trans (farther n (m * 2 ^ j)) (le-of-eq (sym (turned e ∙ other-sign s n (m * 2 ^ j))))))
       (by-sign s t))
     where
       turned : {u : Bool} → t ≡ u → natAbs (signed s n -ℤ signed t (m * 2 ^ j)) ≡ natAbs (signed s n -ℤ signed u (m * 2 ^ j))
@@ -166,16 +145,16 @@ module _ (s : Bool) (n : ℕ) where
     where
       same : t ≡ s → apart n size-of ≡ natAbs (signed s n -ℤ signed t (m * 2 ^ j)) → significandOf n % 2 ≡ 0
       same g f =
-          nearest-even n m j h (λ k. d (ap₂ (λ (x : Bool) (y : ℕ). signed x y) g k))
+          digits-even n m j h (λ k. d (ap₂ (λ (x : Bool) (y : ℕ). signed x y) g k))
           (f ∙ ap (λ (x : Bool). natAbs (signed s n -ℤ signed x (m * 2 ^ j))) g ∙ same-sign s n (m * 2 ^ j))
 
       other : t ≡ not s → apart n size-of ≡ natAbs (signed s n -ℤ signed t (m * 2 ^ j)) → significandOf n % 2 ≡ 0
       other g f =
           let a : apart n size-of ≡ n + m * 2 ^ j = f ∙ ap (λ (x : Bool). natAbs (signed s n -ℤ signed x (m * 2 ^ j))) g ∙ other-sign s n (m * 2 ^ j) in
-          let b = nearest-near n 0 0 (pow-pos 53) in
+          let b = digits-near n 0 0 (pow-pos 53) in
           let z : m * 2 ^ j ≡ 0 = omega arith in
           let w : apart n size-of ≡ apart n (0 * 2 ^ 0) = omega arith in
-          nearest-even n 0 0 (pow-pos 53) (λ k. d (ap (signed t) z ∙ nothing t ∙ ap (signed s) k)) w
+          digits-even n 0 0 (pow-pos 53) (λ k. d (ap (signed t) z ∙ nothing t ∙ ap (signed s) k)) w
 
 -- ---- the bits of the sum
 
@@ -192,9 +171,9 @@ significand-even b e = go (eqb (field b) 0)
     go true = omega arith
     go false = omega arith
 
-pattern-even : (s : Bool) (d q : ℕ) → q % 2 ≡ 0 → (cond s (2 ^ 63) 0 + (d * 2 ^ 52 + q)) % 2 ≡ 0
-pattern-even true d q e = omega arith
-pattern-even false d q e = omega arith
+packed-even : (s : Bool) (d q : ℕ) → q % 2 ≡ 0 → (signBit s + (d * 2 ^ 52 + q)) % 2 ≡ 0
+packed-even true d q e = omega arith
+packed-even false d q e = omega arith
 
 module _ (s : Bool) (n : ℕ) (h : n < limit) where
   abbrev x : Float
@@ -215,7 +194,7 @@ module _ (s : Bool) (n : ℕ) (h : n < limit) where
       (subst (λ (y : Float). HasValue y (negative bits) (size bits) (2 ^ 1074)) back (value-binary64 bits (toBits-lt binary64 x (round-fits binary64 s n (2 ^ 1074))) bits-finite))
 
   bits-even : significandOf n % 2 ≡ 0 → significand bits % 2 ≡ 0
-  bits-even e = significand-even bits (ap (λ (b : ℕ). b % 2) (packed-bits s n (limit-finite n h)) ∙ pattern-even s (droppedDigits n) (significandOf n) e)
+  bits-even e = significand-even bits (ap (λ (b : ℕ). b % 2) (packed-bits s n (limit-finite n h)) ∙ packed-even s (droppedDigits n) (significandOf n) e)
 
 size-sign : (k : ℤ) → k ≡ signed (not (nonNeg k)) (natAbs k)
 size-sign (pos n) = refl

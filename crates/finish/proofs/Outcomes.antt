@@ -1,4 +1,4 @@
--- The figure and the line, from the sum.
+-- The figure and the line, from the sum. The idea: one case split by the kept value's size (`by-size`) and one by the lookup (`by-lookup`) serve all three.
 use mathlib.Core.Path.{_≡_, refl, sym, ap, subst}
 use mathlib.Core.Bool.{Bool, true, false, cond}
 use mathlib.Core.List.{List, [], _∷_}
@@ -80,7 +80,7 @@ figure-outcome s g k = by (sound s g) (find k (sections s g))
 
 -- ---- the line of a figure
 
--- a figure that is given, and one that is refused, with what is made of it
+-- a figure that is given, and one that is refused, and what a line makes of it
 pub given : {A : Type 0} (f : ℤ → A) (b : Bool) (x z : ℤ) → accepted z ≡ cond b (refused 15) (accepted x) → accepted (f z) ≡ cond b (refused 15) (accepted (f x))
 given f true x z e = never (cc)
 given f false x z e = let q : z ≡ x = cc in ap (λ (y : ℤ). accepted (f y)) q
@@ -91,11 +91,16 @@ withheld a false x n e = never (cc)
 
 -- ---- on a table, by what a lookup says of it
 
-at-section : {A : Type 0} (f : Option Section → Outcome A) (s : List ℕ) (g k : ℕ) (o : Option Section) → sound s g ≡ true → find k (sections s g) ≡ o → f o ≡ finishing f s g k
-at-section f s g k o h e = rw (h, e)
+-- what f gives for each case of a lookup
+abbrev pub outcomeOf : {A : Type 0} → (Option Section → Outcome A) → Lookup → Outcome A
+outcomeOf f (Found r) = f (some (meaning r))
+outcomeOf f Missing = f none
+outcomeOf f Unsound = refused 7
 
-not-sound : {A : Type 0} (f : Option Section → Outcome A) (s : List ℕ) (g k : ℕ) → sound s g ≡ false → refused 7 ≡ finishing f s g k
-not-sound f s g k h = rw h
+by-lookup : {A : Type 0} (f : Option Section → Outcome A) (a : Lookup) (s : List ℕ) (g k : ℕ) → LookedUp a s g k → outcomeOf f a ≡ finishing f s g k
+by-lookup f (Found r) s g k l = rw (l .0, l .1)
+by-lookup f Missing s g k l = rw (l .0, l .1)
+by-lookup f Unsound s g k l = rw l
 
 module _ (a : Lookup) (s : List ℕ) (g k : ℕ) (l : LookedUp a s g k) where
   says : {b : Lookup} → a ≡ b → LookedUp b s g k
@@ -104,11 +109,6 @@ module _ (a : Lookup) (s : List ℕ) (g k : ℕ) (l : LookedUp a s g k) where
   pub found-sound : (r : Record) → a ≡ Found r → T (soundRecord r)
   found-sound r e = says e .2
 
-  pub when-found : {A : Type 0} (f : Option Section → Outcome A) (r : Record) → a ≡ Found r → f (some (meaning r)) ≡ finishing f s g k
-  when-found f r e = at-section f s g k (some (meaning r)) (says e .0) (says e .1)
-
-  pub when-missing : {A : Type 0} (f : Option Section → Outcome A) → a ≡ Missing → f none ≡ finishing f s g k
-  when-missing f e = at-section f s g k none (says e .0) (says e .1)
-
-  pub when-unsound : {A : Type 0} (f : Option Section → Outcome A) → a ≡ Unsound → refused 7 ≡ finishing f s g k
-  when-unsound f e = not-sound f s g k (says e)
+  -- the answer in any case of the lookup
+  pub finished : {A : Type 0} (f : Option Section → Outcome A) (b : Lookup) → a ≡ b → outcomeOf f b ≡ finishing f s g k
+  finished f b e = by-lookup f b s g k (says e)

@@ -1,5 +1,5 @@
 -- What the steps from a table to an answer promise each other.
-use Prim.Native.Nat.{ℕ, _+_, _*_, _^_}
+use Prim.Native.Nat.{ℕ, _+_}
 use mathlib.Core.Path.{_≡_}
 use mathlib.Core.Bool.{Bool, true, false, cond}
 use mathlib.Core.List.{List}
@@ -11,6 +11,7 @@ use lib.Ieee.Scale.{finite}
 use Rattle.refusal.specs.Outcome.{Outcome, accepted, refused}
 use Rattle.record.specs.Sound.{sound, soundRecord}
 use Rattle.record.specs.Section.{meaning, sections, find}
+use Rattle.limbs.specs.Packed.{infinite, signBit}
 use Rattle.finish.specs.Sum.{nearestDouble, tooLarge}
 use Rattle.finish.specs.Figure.{millFigure, beyond}
 use Rattle.finish.specs.declared.SectionSum.{SectionSum}
@@ -31,7 +32,7 @@ sumFor k = cond (tooLarge k) TooLarge (Finite (nearestDouble k))
 
 -- what a sign and the other 63 bits stand for: from the exponent field 2047 on the sum is too large
 abbrev pub sumOfBits : ℕ → Bool → SectionSum
-sumOfBits b s = cond (leb (2047 * 2 ^ 52) b) TooLarge (Finite (ofBits binary64 (cond s (2 ^ 63) 0 + b)))
+sumOfBits b s = cond (leb infinite b) TooLarge (Finite (ofBits binary64 (signBit s + b)))
 
 -- a sum that is no infinity and no NaN
 abbrev pub FiniteSum : SectionSum → Type 0

@@ -1,4 +1,4 @@
--- Sums and differences of limbs, limb by limb.
+-- Sums and differences of limbs. The idea: each limb is a variable, and 2^160 a product with one, since `omega` stops at numbers of more than 38 digits.
 use mathlib.Core.Path.{_≡_, refl, sym}
 use mathlib.Core.Bool.{Bool, true, false}
 use Prim.Native.Nat.{ℕ, _+_, _-_, _*_, _/_, _^_, _≤_, _<_}

@@ -1,4 +1,5 @@
--- The 53 leading digits of four limbs and what stands below them, and the size of a number from its last limb.
+-- The 53 leading digits of four limbs. The idea: below them only the order beside a half counts, and 28 digits, the last of them set where any lower one is,
+-- have the same order as all 107.
 use mathlib.Core.Path.{_≡_, sym, ap, _∙_}
 use Prim.Native.Nat.{ℕ, suc, _+_, _*_, _/_, _%_, _^_, _≤_, _<_, compare}
 use native.Mathlib.Nat.{le-trans, le-of-eq, lt-of-lt-of-le, le-add-left, mul-comm, mul-le-mul-right, mul-le-mul-left}

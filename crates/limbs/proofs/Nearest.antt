@@ -1,9 +1,9 @@
--- The whole number nearest to a fraction, by the order of twice the remainder and the divisor.
+-- The whole number nearest to a fraction. The idea: everything goes by the three orders that twice the remainder and the divisor can stand in (`order-cases`).
 use mathlib.Core.Path.{_≡_, refl, sym, ap, ap₂, _∙_, subst}
 use mathlib.Core.Bool.{Bool, true, false, not, cond}
 use mathlib.Core.Logic.{_⊎_, inl, inr}
 use Prim.Native.Nat.{ℕ, suc, _+_, _*_, _/_, _%_, _≤_, _<_, compare, Ordering, Ordering·lt, Ordering·eq, Ordering·gt}
-use native.Mathlib.Nat.{le-refl, le-suc, mul-comm, mul-right-comm, add-mul, mul-lt-mul-of-pos-right, mod-lt, div-add-mod'}
+use native.Mathlib.Nat.{le-refl, le-suc, le-of-lt, mul-comm, mul-right-comm, add-mul, mul-lt-mul-of-pos-right, mod-lt, div-add-mod'}
 use native.Mathlib.Omega.{arith}
 use borrow.Author.Tests.{eqb-true, eqb-false}
 use lib.Dec.{T, isLe, isEq, leb, leb→le, nleb→lt, eqb→eq}
@@ -98,6 +98,9 @@ module _ (tie : ℕ → Bool) where
           let s : a / b * b * d ≡ c / d * d * b = mul-right-comm (a / b) b d ∙ ap (λ (z : ℕ). z * d * b) w in
           omega arith
 
+not-one : (x : ℕ) → (x ≡ 1 → ⊥) → x < 2 → x ≡ 0
+not-one x f l = omega arith
+
 -- with halves to even it is the library's
 pub closest-odd : (n d : ℕ) → closest n d ≡ nearestBy odd n d
 unfolding nearestBy
@@ -105,10 +108,7 @@ closest-odd n d = by (n / d) (compare (n % d * 2) d)
   where
     tie : (q : ℕ) (t : Bool) → (t ≡ true → q % 2 ≡ 1) → (t ≡ false → q % 2 ≡ 1 → ⊥) → q + q % 2 ≡ cond t (suc q) q
     tie q true h k = let e = h refl in omega arith
-    tie q false h k = let e : q % 2 ≡ 0 = even (q % 2) (k refl) (omega arith) in omega arith
-      where
-        even : (x : ℕ) → (x ≡ 1 → ⊥) → x < 2 → x ≡ 0
-        even x f l = omega arith
+    tie q false h k = let e : q % 2 ≡ 0 = not-one (q % 2) (k refl) (omega arith) in omega arith
 
     by : (q : ℕ) (o : Ordering) → nearest q o ≡ rounded (odd q) q o
     by q Ordering·lt = refl
@@ -121,22 +121,58 @@ abbrev pub Within : Bool → ℕ → ℕ → ℕ → Type 0
 Within true n d z = (z * d * 2 ≤ n * 2 + d) × (n * 2 < z * d * 2 + d)
 Within false n d z = (z * d * 2 < n * 2 + d) × (n * 2 ≤ z * d * 2 + d)
 
-pub nearest-within : (t : Bool) (n d : ℕ) → 0 < d → Within t n d (nearestBy (λ (q : ℕ). t) n d)
+module _ (tie : ℕ → Bool) (n d : ℕ) (h : 0 < d) where
+  pub nearest-within : Within (tie (n / d)) n d (nearestBy tie n d)
+  unfolding nearestBy
+  nearest-within =
+      let r = n % d in
+      let q = n / d in
+      let t = tie (n / d) in
+      subst (λ (m : ℕ). Within t m d (rounded t q (compare (r * 2) d))) (div-add-mod' n d)
+      (order-cases (λ (o : Ordering). Within t (q * d + r) d (rounded t q o)) (r * 2) d (less t q r) (half t q r) (more t q r (mod-lt n h)))
+    where
+      less : (t : Bool) (q r : ℕ) → r * 2 < d → Within t (q * d + r) d q
+      less true q r l = (omega arith, omega arith)
+      less false q r l = (omega arith, omega arith)
+
+      half : (t : Bool) (q r : ℕ) → r * 2 ≡ d → Within t (q * d + r) d (cond t (suc q) q)
+      half true q r l = (omega arith, omega arith)
+      half false q r l = (omega arith, omega arith)
+
+      more : (t : Bool) (q r : ℕ) → r < d → d < r * 2 → Within t (q * d + r) d (suc q)
+      more true q r g l = (omega arith, omega arith)
+      more false q r g l = (omega arith, omega arith)
+
+  -- at most half a unit, whatever the rule
+  pub nearest-near : (nearestBy tie n d * d * 2 ≤ n * 2 + d) × (n * 2 ≤ nearestBy tie n d * d * 2 + d)
+  nearest-near = by (tie (n / d)) (nearestBy tie n d) nearest-within
+    where
+      by : (t : Bool) (z : ℕ) → Within t n d z → (z * d * 2 ≤ n * 2 + d) × (n * 2 ≤ z * d * 2 + d)
+      by true z w = (w .0, le-of-lt (w .1))
+      by false z w = (le-of-lt (w .0), w .1)
+
+-- z units d are just half a unit from n
+abbrev pub Halfway : ℕ → ℕ → ℕ → Type 0
+Halfway n d z = (z * d * 2 ≡ n * 2 + d) ⊎ (n * 2 ≡ z * d * 2 + d)
+
+-- with halves to even, an exact half gives an even number
+pub nearest-even : (n d : ℕ) → 0 < d → Halfway n d (nearestBy odd n d) → nearestBy odd n d % 2 ≡ 0
 unfolding nearestBy
-nearest-within t n d h =
+nearest-even n d h =
     let r = n % d in
     let q = n / d in
-    subst (λ (m : ℕ). Within t m d (rounded t q (compare (r * 2) d))) (div-add-mod' n d)
-    (order-cases (λ (o : Ordering). Within t (q * d + r) d (rounded t q o)) (r * 2) d (less t q r) (half t q r) (more t q r (mod-lt n h)))
+    subst (λ (m : ℕ). Halfway m d (rounded (odd q) q (compare (r * 2) d)) → rounded (odd q) q (compare (r * 2) d) % 2 ≡ 0) (div-add-mod' n d)
+    (order-cases (λ (o : Ordering). Halfway (q * d + r) d (rounded (odd q) q o) → rounded (odd q) q o % 2 ≡ 0) (r * 2) d
+    (λ l w. absurd (less q r l w)) (λ l w. even q (odd q) (eqb-true (q % 2) 1) (eqb-false (q % 2) 1)) (λ l w. absurd (more q r (mod-lt n h) l w)))
   where
-    less : (t : Bool) (q r : ℕ) → r * 2 < d → Within t (q * d + r) d q
-    less true q r l = (omega arith, omega arith)
-    less false q r l = (omega arith, omega arith)
+    less : (q r : ℕ) → r * 2 < d → Halfway (q * d + r) d q → ⊥
+    less q r l (inl e) = omega arith
+    less q r l (inr e) = omega arith
 
-    half : (t : Bool) (q r : ℕ) → r * 2 ≡ d → Within t (q * d + r) d (cond t (suc q) q)
-    half true q r l = (omega arith, omega arith)
-    half false q r l = (omega arith, omega arith)
+    even : (q : ℕ) (t : Bool) → (t ≡ true → q % 2 ≡ 1) → (t ≡ false → q % 2 ≡ 1 → ⊥) → cond t (suc q) q % 2 ≡ 0
+    even q true f g = let e = f refl in omega arith
+    even q false f g = not-one (q % 2) (g refl) (omega arith)
 
-    more : (t : Bool) (q r : ℕ) → r < d → d < r * 2 → Within t (q * d + r) d (suc q)
-    more true q r g l = (omega arith, omega arith)
-    more false q r g l = (omega arith, omega arith)
+    more : (q r : ℕ) → r < d → d < r * 2 → Halfway (q * d + r) d (suc q) → ⊥
+    more q r k l (inl e) = omega arith
+    more q r k l (inr e) = omega arith

@@ -5,7 +5,7 @@ use mathlib.Core.Logic.{_⊎_, inl, inr, ⊎-elim}
 use Prim.Native.Nat.{ℕ, suc, _+_, _-_, _*_, _/_, _^_, _≤_, _<_}
 use native.Mathlib.Nat.{le-trans, le-of-eq, le-refl, le-antisymm, eq-or-lt-of-le, lt-of-lt-of-le, lt-of-le-of-lt, lt-of-not-le, not-le-of-lt, mul-one, mul-assoc, mul-div-cancel, mul-le-mul-right, div-one, zero-add, suc-add, lt-suc-self, le-div-iff-mul-le, mul-pos, mul-le-mul, add-assoc}
 use native.Mathlib.Omega.{arith}
-use mathlib.Core.Bool.{Bool, cond}
+use mathlib.Core.Bool.{Bool}
 use lib.Dec.{ltb, lit<}
 use lib.Arith.{le→nltb}
 use lib.Pow.{pow-add, pow-pos, pow-mono, pow-lt, shl-lt}
@@ -16,7 +16,7 @@ use lib.Ieee.Exact.{HasValue, units-val}
 use lib.Ieee.Bits.{ofBits-toBits, cond-no}
 use lib.Ieee.Nearest.{closest, closest-same}
 use Rattle.limbs.specs.Nearest.{odd}
-use Rattle.limbs.specs.Packed.{droppedDigits, significandOf, packed}
+use Rattle.limbs.specs.Packed.{droppedDigits, significandOf, packed, infinite, signBit}
 use Rattle.limbs.proofs.Nearest.{le-or-lt, nearest-ge, nearest-le, closest-odd}
 
 -- ---- how many digits a number has
@@ -27,11 +27,8 @@ size-is n a l h = le-antisymm (size-le n (suc a) h) (lt-of-not-le (λ (g : size 
 
 -- ---- the bits of a finite value of a units of 2^-1074
 
-abbrev pub sign : Bool → ℕ
-sign s = cond s (2 ^ 63) 0
-
 abbrev written : Bool → ℕ → ℕ
-written s a = sign s + (size a - 53) * 2 ^ 52 + a / 2 ^ (size a - 53)
+written s a = signBit s + (size a - 53) * 2 ^ 52 + a / 2 ^ (size a - 53)
 
 value-bits : (x : Float) (s : Bool) (a : ℕ) → HasValue x s a (2 ^ 1074) → toBits binary64 x ≡ written s a
 unfolding toBits
@@ -39,7 +36,7 @@ value-bits nan s a h = absurd h
 value-bits (inf t) s a h = absurd h
 value-bits (fin t m e) s a h =
     let same : m * up e * 2 ^ 1074 / down e ≡ a = ap (λ (x : ℕ). x / down e) (h .1) ∙ mul-div-cancel a (down-pos e) in
-    ap (λ (b : Bool). sign b + (size (m * up e * 2 ^ 1074 / down e) - 53) * 2 ^ 52 + m * up e * 2 ^ 1074 / down e / 2 ^ (size (m * up e * 2 ^ 1074 / down e) - 53)) (h .0)
+    ap (λ (b : Bool). signBit b + (size (m * up e * 2 ^ 1074 / down e) - 53) * 2 ^ 52 + m * up e * 2 ^ 1074 / down e / 2 ^ (size (m * up e * 2 ^ 1074 / down e) - 53)) (h .0)
     ∙ ap (λ (x : ℕ). written s x) same
 
 -- ---- q times 2^k units, q having its 53 digits or k being 0
@@ -120,10 +117,6 @@ round-units s n =
 
 -- ---- where the result is finite
 
--- the least packed that is no finite value's, and the least size in units that is no finite value
-abbrev pub infinite : ℕ
-infinite = 2047 * 2 ^ 52
-
 over-full : (q k : ℕ) → 2046 ≤ k → 2 ^ 52 ≤ q → 2 ^ 2098 ≤ q * 2 ^ k
 over-full q k h l = le-trans (le-of-eq (pow-add 2 52 2046)) (mul-le-mul l (pow-mono h))
 
@@ -156,16 +149,16 @@ infinite-above q k h (inr l) b = ⊎-elim (λ g. at g) (λ g. over-full q k g l)
 
 -- ---- the packed is the rounded value's, and the rounded value is an infinity from `infinite` on
 
-pub packed-bits : (s : Bool) (n : ℕ) → packed n < infinite → toBits binary64 (round binary64 s n (2 ^ 1074)) ≡ sign s + packed n
+pub packed-bits : (s : Bool) (n : ℕ) → packed n < infinite → toBits binary64 (round binary64 s n (2 ^ 1074)) ≡ signBit s + packed n
 packed-bits s n h =
     let q = significandOf n in
     let k = droppedDigits n in
     ap (λ (x : Float). toBits binary64 x) (round-units s n)
     ∙ value-bits (units binary64 s q k) s (q * 2 ^ k) (units-val binary64 s q k (finite-below q k (significand-le n) (significand-ge n) h))
-    ∙ add-assoc (sign s) ((size (q * 2 ^ k) - 53) * 2 ^ 52) (q * 2 ^ k / 2 ^ (size (q * 2 ^ k) - 53))
-    ∙ ap (λ (x : ℕ). sign s + x) (kept-is q k (significand-le n) (significand-ge n))
+    ∙ add-assoc (signBit s) ((size (q * 2 ^ k) - 53) * 2 ^ 52) (q * 2 ^ k / 2 ^ (size (q * 2 ^ k) - 53))
+    ∙ ap (λ (x : ℕ). signBit s + x) (kept-is q k (significand-le n) (significand-ge n))
 
-pub packed-value : (s : Bool) (n : ℕ) → packed n < infinite → ofBits binary64 (sign s + packed n) ≡ round binary64 s n (2 ^ 1074)
+pub packed-value : (s : Bool) (n : ℕ) → packed n < infinite → ofBits binary64 (signBit s + packed n) ≡ round binary64 s n (2 ^ 1074)
 packed-value s n h =
     ap (λ (b : ℕ). ofBits binary64 b) (sym (packed-bits s n h)) ∙ ofBits-toBits binary64 (round binary64 s n (2 ^ 1074)) (round-fits binary64 s n (2 ^ 1074))
 

@@ -1,4 +1,5 @@
--- The bits of n units, read off a number w of just 160 digits that is n moved by a power of two.
+-- The bits of n units, read off a number w of just 160 digits that is n times a power of two. The idea: w's leading 53 digits are n's, and n has as many
+-- digits as w less that power; so both parts of the bits follow from w and the power.
 use mathlib.Core.Path.{_≡_, sym, ap, _∙_}
 use Prim.Native.Nat.{ℕ, _+_, _-_, _*_, _/_, _^_, _≤_, _<_}
 use native.Mathlib.Nat.{le-trans, le-of-eq, lt-of-lt-of-le, lt-of-le-of-lt, lt-of-not-le, not-le-of-lt, mul-one, mul-comm, mul-assoc, mul-right-comm, mul-div-cancel, mul-le-mul-right, eq-of-mul-eq-mul-right, zero-add}
@@ -86,8 +87,8 @@ pub sum-fits : (t by q : ℕ) → t ≤ 2080 → q ≤ 2 ^ 53 → Fits w64 ((27 
 sum-fits t by q h k = omega arith
 
 module _ (a r : List ℕ) (t by : ℕ) (n : ShiftedLeft a r by) (g : 2 ^ 39 ≤ getD r 3 0) (e : unitsOf a t * 2 ^ 80 ≡ valueOf a * 2 ^ t) where
-  moved : unitsOf a t * 2 ^ (80 + by) ≡ valueOf r * 2 ^ t
-  moved =
+  scaled : unitsOf a t * 2 ^ (80 + by) ≡ valueOf r * 2 ^ t
+  scaled =
       ap (λ (x : ℕ). unitsOf a t * x) (pow-add 2 80 by)
       ∙ sym (mul-assoc (unitsOf a t) (2 ^ 80) (2 ^ by))
       ∙ ap (λ (x : ℕ). x * 2 ^ by) e
@@ -101,16 +102,16 @@ module _ (a r : List ℕ) (t by : ℕ) (n : ShiftedLeft a r by) (g : 2 ^ 39 ≤ 
   hi = value-lt r 40 (n .normal) (n .normal .limb3)
 
   pub shift-lt : 27 + t < by → by - (27 + t) < 64
-  shift-lt h = omega (arith, scaled-size (unitsOf a t) (valueOf r) t (80 + by) moved lo hi, size-pos (unitsOf a t) (valueOf r) t (80 + by) moved lo hi)
+  shift-lt h = omega (arith, scaled-size (unitsOf a t) (valueOf r) t (80 + by) scaled lo hi, size-pos (unitsOf a t) (valueOf r) t (80 + by) scaled lo hi)
 
   pub assembled : by ≤ 27 + t → (27 + t - by) * 2 ^ 52 + leadingDigits r ≡ packed (unitsOf a t)
   assembled h =
       let g : 80 + by ≤ 107 + t = omega arith in
       let k : 27 + t - by ≡ 107 + t - (80 + by) = omega arith in
-      ap (λ (x : ℕ). x * 2 ^ 52 + leadingDigits r) k ∙ sym (scaled-normal (unitsOf a t) (valueOf r) t (80 + by) moved lo hi g)
+      ap (λ (x : ℕ). x * 2 ^ 52 + leadingDigits r) k ∙ sym (scaled-normal (unitsOf a t) (valueOf r) t (80 + by) scaled lo hi g)
 
   pub shifted : 27 + t < by → leadingDigits r / 2 ^ (by - (27 + t)) ≡ packed (unitsOf a t)
   shifted h =
       let g : 107 + t < 80 + by = omega arith in
       let k : by - (27 + t) ≡ 80 + by - (107 + t) = omega arith in
-      ap (λ (x : ℕ). leadingDigits r / 2 ^ x) k ∙ sym (scaled-small (unitsOf a t) (valueOf r) t (80 + by) moved lo hi g)
+      ap (λ (x : ℕ). leadingDigits r / 2 ^ x) k ∙ sym (scaled-small (unitsOf a t) (valueOf r) t (80 + by) scaled lo hi g)

@@ -1,4 +1,4 @@
--- A number shifted left, by whole limbs and by digits.
+-- A number shifted left, by whole limbs and by digits. The idea: each limb times 2^d is split at 40 digits; the low part stays, the high part joins the next limb.
 use mathlib.Core.Path.{_≡_, sym, ap, ap₂, _∙_}
 use Prim.Native.Nat.{ℕ, suc, _+_, _-_, _*_, _/_, _%_, _^_, _≤_, _<_}
 use native.Mathlib.Nat.{le-trans, le-of-eq, lt-of-lt-of-le, lt-of-not-le, not-le-of-lt, mul-assoc, add-zero, mul-le-mul-right, mul-mod-left, mod-lt, mod-eq-of-lt, le-add-right, mul-div-mul-right}

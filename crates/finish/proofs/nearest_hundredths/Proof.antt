@@ -1,9 +1,10 @@
-use mathlib.Core.Path.{_∙_}
+use mathlib.Core.Path.{_≡_, _∙_}
 use mathlib.Core.Bool.{not}
-use Prim.Native.Nat.{ℕ, _*_}
+use Prim.Native.Nat.{ℕ, _*_, _/_, _^_, compare}
 use native.Mathlib.Nat.{lt-of-le-of-lt}
 use native.Mathlib.Omega.{arith}
 use lib.Pow.{shr-le}
+use Rattle.limbs.specs.Nearest.{rounded}
 use Rattle.finish.proofs.Hundredths.{hundredths-zero, hundredths-round}
 use borrow.Author.Needs.{needs}
 use Rattle.finish.proofs.nearest_hundredths.Statement.{statement}
@@ -33,7 +34,9 @@ round-requires c κs = let a = c .before .before .before .args in lt-of-le-of-lt
 returns-2 : tie.Need-returns-2
 returns-2 c =
     let s = c .before .before .before .before in
-    c .round .ensures
+    let n = s .args .m * 100 in
+    let e : c .round .result ≡ rounded (not (s .args .negative)) (n / 2 ^ s .args .r) (compare (c .before .before .last-digits .result) (c .before .power .result)) = c .round .ensures in
+    e
     ∙ hundredths-round (λ (q : ℕ). not (s .args .negative)) (s .args .m * 100) (s .args .r) _ _ (s .pre .1) (c .before .before .last-digits .ensures) (c .before .power .ensures)
 
 pub nearest-hundredths-spec : {M : Type 1} → statement M
