@@ -1,5 +1,5 @@
 -- The figure and the line, from the sum. The idea: one case split by the kept value's size (`by-size`) and one by the lookup (`by-lookup`) serve all three.
-use mathlib.Core.Path.{_≡_, refl, sym, ap, subst}
+use mathlib.Core.Path.{_≡_, refl, ap, subst}
 use mathlib.Core.Bool.{Bool, true, false, cond}
 use mathlib.Core.List.{List, [], _∷_}
 use mathlib.Core.Option.{Option, none, some}
@@ -15,7 +15,7 @@ use Rattle.record.specs.Sound.{sound, soundRecord}
 use Rattle.record.specs.Section.{Section, kept, meaning, sections, find}
 use Rattle.finish.specs.Sum.{nearestDouble, tooLarge}
 use Rattle.finish.specs.Figure.{beyond}
-use Rattle.finish.specs.Finish.{sumOf, figureFor, figureOf, lineFor, lineOf, finishing, sumOutcome, figureOutcome}
+use Rattle.finish.specs.Finish.{sumOf, figureFor, figureOf, lineFor, lineOf, finishing, sumOutcome}
 use Rattle.finish.specs.Answer.{sumAnswer}
 use Rattle.finish.specs.Steps.{LookedUp, sumFor, FiniteSum, figureBy, lineBy}
 use Rattle.record.specs.declared.Record.{Record}
@@ -48,9 +48,8 @@ sum-for s = by-size (kept s) (λ (b : Bool). sumAnswer (cond b TooLarge (Finite 
 pub finite-for : (k : ℤ) → FiniteSum (sumFor k)
 finite-for k = by-size k (λ (b : Bool). FiniteSum (cond b TooLarge (Finite (nearestDouble k)))) tt (λ f. f)
 
-pub figure-by : (o : Option Section) → figureOf o ≡ figureBy (sumOf o)
-figure-by none = refl
-figure-by (some s) = by-size (kept s) (λ (b : Bool). cond b (refused 14) (outcome (ground 15 (beyond (figureFor s)) ∷ []) (figureFor s)) ≡ figureBy (sumBy s b)) refl (λ f. refl)
+pub figure-by : (s : Section) → figureOf (some s) ≡ figureBy (sumOf (some s))
+figure-by s = by-size (kept s) (λ (b : Bool). cond b (refused 14) (outcome (ground 15 (beyond (figureFor s)) ∷ []) (figureFor s)) ≡ figureBy (sumBy s b)) refl (λ f. refl)
 
 pub line-by : (s : Section) → lineOf (some s) ≡ lineBy (s .key) (s .count) (sumOf (some s))
 line-by s = by-size (kept s) (λ (b : Bool). cond b (refused 14) (outcome (ground 15 (beyond (figureFor s)) ∷ []) (lineFor s)) ≡ lineBy (s .key) (s .count) (sumBy s b)) refl (λ f. refl)
@@ -69,14 +68,6 @@ finite-outcome (Finite x) s g k e = by (sound s g) (find k (sections s g)) e
     by true none e = never (cc)
     by true (some s) e =
         by-size (kept s) (λ (b : Bool). accepted x ≡ sumBy s b → T (finite x)) (λ e. never (cc)) (λ f e. let q : x ≡ nearestDouble (kept s) = cc in rw q f) e
-
--- a figure is that of the sum
-pub figure-outcome : (s : List ℕ) (g k : ℕ) → figureBy (sumOutcome s g k) ≡ figureOutcome s g k
-figure-outcome s g k = by (sound s g) (find k (sections s g))
-  where
-    by : (b : Bool) (o : Option Section) → figureBy (cond b (sumOf o) (refused 7)) ≡ cond b (figureOf o) (refused 7)
-    by true o = sym (figure-by o)
-    by false o = refl
 
 -- ---- the line of a figure
 

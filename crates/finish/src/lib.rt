@@ -17,7 +17,7 @@ ghost use Rattle.record.specs.Sound.{soundRecord};
 ghost use Rattle.record.specs.Section.{kept, meaning};
 ghost use Rattle.limbs.specs.Nearest.{nearestBy};
 ghost use Rattle.finish.specs.Figure.{millFigure, beyond};
-ghost use Rattle.finish.specs.Finish.{lineOf, sumOutcome, figureOutcome, lineOutcome};
+ghost use Rattle.finish.specs.Finish.{figureOf, lineOf, sumOutcome, figureOutcome, lineOutcome};
 ghost use Rattle.finish.specs.Answer.{sumAnswer, figureAnswer, lineAnswer};
 ghost use Rattle.finish.specs.Steps.{LookedUp, sumFor, sumOfBits, FiniteSum, figureBy, lineBy};
 ghost use Rattle.finish.specs.Raised.{carryRaise, totalRaise, raisedCarry, raisedTotal, Stacked};
@@ -238,6 +238,14 @@ fn look_up(table: &[u8], g: usize, key: u32) -> Lookup
     }
 }
 
+// The mill figure of a sound record.
+fn record_figure(r: Record) -> FigureAnswer
+    requires { ⌜ T (soundRecord r) ⌝ }
+    ensures { λ x. ⌜ figureAnswer x ≡ figureOf (some (meaning r)) ⌝ }
+{
+    figure_by(record_sum(r))
+}
+
 // The finished line of a sound record.
 pub fn record_line(r: Record) -> LineAnswer
     requires { ⌜ T (soundRecord r) ⌝ }
@@ -261,7 +269,11 @@ pub fn sum(table: &[u8], g: usize, key: u32) -> SectionSum
 pub fn figure(table: &[u8], g: usize, key: u32) -> FigureAnswer
     ensures { λ r. ⌜ figureAnswer r ≡ figureOutcome (now (table .entry)) g key ⌝ }
 {
-    figure_by(sum(table, g, key))
+    match look_up(table, g, key) {
+        Lookup::Found(r) => record_figure(r),
+        Lookup::Missing => FigureAnswer::Refused(Refusal::SectionAbsent),
+        Lookup::Unsound => FigureAnswer::Refused(Refusal::TableNotSound),
+    }
 }
 
 // Its finished line.

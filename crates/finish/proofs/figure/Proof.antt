@@ -1,23 +1,58 @@
-use mathlib.Core.Path.{ap, _∙_}
+use Rattle.finish.proofs.Outcomes.{found-sound, finished}
+use mathlib.Core.Path.{_∙_}
 use denote.Ref.{now}
-use Rattle.finish.specs.Steps.{figureBy}
-use Rattle.finish.proofs.Outcomes.{finite-outcome, figure-outcome}
+use Rattle.finish.specs.Finish.{figureOf}
+use Rattle.finish.specs.declared.Lookup.the-variants.{Found, Missing, Unsound}
 use borrow.Author.Needs.{needs}
 use Rattle.finish.proofs.figure.Statement.{statement}
 use Rattle.finish.proofs.figure.Tie as tie
 
-sum-requires : tie.Need-sum-requires
-sum-requires c κs = search needs
+look-up-requires : tie.Need-look-up-requires
+look-up-requires c κs = search needs
 
-figure-by-requires : tie.Need-figure-by-requires
-figure-by-requires c κs =
-    let s = c .before .before .args in
-    finite-outcome (c .sum .result) (now (s .table)) (s .g) (s .key) (c .sum .ensures)
+enum-known-r : tie.Need-enum-known-r
+enum-known-r c = search needs
+
+record-figure-requires : tie.Need-record-figure-requires
+record-figure-requires c κs =
+    let l = c .before .before .before .look-up in
+    let s = c .before .before .before .before .before .args in
+    found-sound (l .result) (now (s .table)) (s .g) (s .key) (l .ensures) (c .before .r .given .0 .0) (c .before .r .given .1)
+
+enum-told : tie.Need-enum-told
+enum-told c = search needs
+
+enum-told-2 : tie.Need-enum-told-2
+enum-told-2 c = search needs
 
 returns : tie.Need-returns
 returns c =
-    let s = c .before .before .before .args in
-    c .figure-by .ensures ∙ ap figureBy (c .before .sum .ensures) ∙ figure-outcome (now (s .table)) (s .g) (s .key)
+    let l = c .before .before .before .before .look-up in
+    let s = c .before .before .before .before .before .before .args in
+    let r = c .before .before .r .given in
+    c .record-figure .ensures ∙ finished (l .result) (now (s .table)) (s .g) (s .key) (l .ensures) figureOf (Found (r .0 .0)) (r .1)
+
+returns-2 : tie.Need-returns-2
+returns-2 c =
+    let l = c .before .before .look-up in
+    let s = c .before .before .before .before .args in
+    finished (l .result) (now (s .table)) (s .g) (s .key) (l .ensures) figureOf Missing (c .enum-told .given .1)
+
+returns-3 : tie.Need-returns-3
+returns-3 c =
+    let l = c .before .before .look-up in
+    let s = c .before .before .before .before .args in
+    finished (l .result) (now (s .table)) (s .g) (s .key) (l .ensures) figureOf Unsound (c .enum-told2 .given .1)
 
 pub figure-spec : {M : Type 1} → statement M
-figure-spec = tie.close (tie.spec sum-requires figure-by-requires returns)
+figure-spec =
+    tie.close
+    (tie.spec
+    look-up-requires
+    enum-known-r
+    record-figure-requires
+    enum-told
+    enum-told-2
+    returns
+    returns-2
+    returns-3)
