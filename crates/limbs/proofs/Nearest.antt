@@ -3,7 +3,7 @@ use mathlib.Core.Path.{_≡_, refl, sym, ap, ap₂, _∙_, subst}
 use mathlib.Core.Bool.{Bool, true, false, not, cond}
 use mathlib.Core.Logic.{_⊎_, inl, inr}
 use Prim.Native.Nat.{ℕ, suc, _+_, _*_, _/_, _%_, _≤_, _<_, compare, Ordering, Ordering·lt, Ordering·eq, Ordering·gt}
-use native.Mathlib.Nat.{le-refl, le-suc, le-of-lt, mul-comm, mul-right-comm, add-mul, mul-lt-mul-of-pos-right, mod-lt, div-add-mod'}
+use native.Mathlib.Nat.{le-refl, le-suc, le-of-lt, lt-irrefl, mul-comm, mul-right-comm, add-mul, mul-lt-mul-of-pos-right, mod-lt, div-add-mod'}
 use native.Mathlib.Omega.{arith}
 use borrow.Author.Tests.{eqb-true, eqb-false}
 use lib.Dec.{T, isLe, isEq, leb, leb→le, nleb→lt, eqb→eq}
@@ -59,6 +59,30 @@ rounded-le t q Ordering·lt = le-suc q
 rounded-le true q Ordering·eq = le-refl (suc q)
 rounded-le false q Ordering·eq = le-suc q
 rounded-le t q Ordering·gt = le-refl (suc q)
+
+-- by one comparison: at an exact half the rest counts one more where the next number is to be taken
+module _ (t : Bool) (q r h : ℕ) where
+  pub round-next : h < r + cond t 1 0 → suc q ≡ rounded t q (compare r h)
+  round-next l = order-cases (λ (o : Ordering). suc q ≡ rounded t q o) r h (λ g. absurd (less t g l)) (λ e. same t e l) (λ g. refl)
+    where
+      less : (t : Bool) → r < h → h < r + cond t 1 0 → ⊥
+      less true g l = omega arith
+      less false g l = omega arith
+
+      same : (t : Bool) → r ≡ h → h < r + cond t 1 0 → suc q ≡ cond t (suc q) q
+      same true e l = refl
+      same false e l = absurd (lt-irrefl 0 (omega arith))
+
+  pub round-stay : r + cond t 1 0 ≤ h → q ≡ rounded t q (compare r h)
+  round-stay l = order-cases (λ (o : Ordering). q ≡ rounded t q o) r h (λ g. refl) (λ e. same t e l) (λ g. absurd (more t g l))
+    where
+      same : (t : Bool) → r ≡ h → r + cond t 1 0 ≤ h → q ≡ cond t (suc q) q
+      same true e l = absurd (lt-irrefl 0 (omega arith))
+      same false e l = refl
+
+      more : (t : Bool) → h < r → r + cond t 1 0 ≤ h → ⊥
+      more true g l = omega arith
+      more false g l = omega arith
 
 -- ---- the nearest number
 

@@ -1,5 +1,6 @@
 // Numbers of 160 binary digits in four limbs of 40, the lowest first: distance, shift, and the one rounding to a double's bits.
 ghost use mathlib.Core.Path.{_≡_};
+ghost use mathlib.Core.Bool.{cond};
 ghost use Prim.Native.Nat.{_+_, _-_, _*_, _/_, _%_, _^_, _<_, _≤_, compare};
 ghost use lib.Dec.{eqb};
 ghost use lib.ListN.{getD};
@@ -160,24 +161,25 @@ fn normalise(a: [u64; 4]) -> Shifted
     }
 }
 
-// The quotient q or the next number, whichever is nearer, by its rest and half of the divisor; at an exact half the next where `up` says so.
+fn one_if(b: bool) -> u64
+    ensures { λ r. ⌜ (r ≡ cond b 1 0) × (r ≤ 1) ⌝ }
+{
+    if b { 1 } else { 0 }
+}
+
+// The quotient q or the next number, whichever is nearer, by its rest and half of the divisor; at an exact half the next where `up` says so, for which the
+// rest counts one more.
 pub fn round(q: u64, rest: u64, half: u64, up: bool) -> u64
-    requires { ⌜ q < 2 ^ 63 ⌝ }
+    requires { ⌜ (q < 2 ^ 63) × (rest < 2 ^ 63) ⌝ }
     ensures { λ r. ⌜ r ≡ rounded up q (compare rest half) ⌝ }
 {
-    if rest < half {
-        return q;
-    }
-    if rest > half {
-        return q + 1;
-    }
-    if up { q + 1 } else { q }
+    if rest + one_if(up) > half { q + 1 } else { q }
 }
 
 // The digits below the 53 leading ones, as a number of units of which 2^27 are a half: 27 digits, and one that is set where any lower digit is.
 fn lower_digits(a: [u64; 4]) -> u64
     requires { ⌜ Normal a ⌝ }
-    ensures { λ r. ⌜ compare r (2 ^ 27) ≡ compare (valueOf a % 2 ^ 107 * 2) (2 ^ 107) ⌝ }
+    ensures { λ r. ⌜ (compare r (2 ^ 27) ≡ compare (valueOf a % 2 ^ 107 * 2) (2 ^ 107)) × (r < 2 ^ 28) ⌝ }
 {
     let rest = a[2] % (1 << 27) * 2;
     if a[1] + a[0] > 0 { rest + 1 } else { rest }

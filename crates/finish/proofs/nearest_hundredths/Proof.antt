@@ -1,7 +1,7 @@
 use mathlib.Core.Path.{_≡_, _∙_}
 use mathlib.Core.Bool.{not}
-use Prim.Native.Nat.{ℕ, _*_, _/_, _^_, compare}
-use native.Mathlib.Nat.{lt-of-le-of-lt}
+use Prim.Native.Nat.{ℕ, _*_, _/_, _^_, _<_, compare}
+use native.Mathlib.Nat.{lt-of-le-of-lt, le-trans, le-of-eq, mod-le}
 use native.Mathlib.Omega.{arith}
 use lib.Pow.{shr-le}
 use Rattle.limbs.specs.Nearest.{rounded}
@@ -29,7 +29,11 @@ power-requires : tie.Need-power-requires
 power-requires c κs = search needs
 
 round-requires : tie.Need-round-requires
-round-requires c κs = let a = c .before .before .before .args in lt-of-le-of-lt (shr-le (a .m * 100) (a .r)) (omega arith)
+round-requires c κs =
+    let s = c .before .before .before in
+    let n = s .args .m * 100 in
+    let l : n < 2 ^ 63 = omega (arith, s .pre .0) in
+    (lt-of-le-of-lt (shr-le n (s .args .r)) l, lt-of-le-of-lt (le-trans (le-of-eq (c .before .last-digits .ensures)) (mod-le n (2 ^ s .args .r))) l)
 
 returns-2 : tie.Need-returns-2
 returns-2 c =

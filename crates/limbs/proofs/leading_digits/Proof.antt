@@ -29,7 +29,7 @@ returns c =
     let s = c .before .before in
     let a = s .args .t1 in
     let e : c .round .result ≡ rounded (odd (lead a)) (lead a) (compare (c .before .lower-digits .result) (2 ^ 27)) = c .round .ensures in
-    e ∙ ap (λ (o : Ordering). rounded (odd (lead a)) (lead a) o) (c .before .lower-digits .ensures) ∙ lead-nearest a (s .pre)
+    e ∙ ap (λ (o : Ordering). rounded (odd (lead a)) (lead a) o) (c .before .lower-digits .ensures .0) ∙ lead-nearest a (s .pre)
 
 pub leading-digits-spec : {M : Type 1} → statement M
 leading-digits-spec =

@@ -25,10 +25,10 @@ add-result : tie.Need-add-result
 add-result c = search needs
 
 returns : tie.Need-returns
-returns c = lower-set (c .before .args .t1) (c .before .pre) (c .if1 .taken)
+returns c = (lower-set (c .before .args .t1) (c .before .pre) (c .if1 .taken), search needs)
 
 returns-2 : tie.Need-returns-2
-returns-2 c = lower-clear (c .before .args .t1) (c .before .pre) (c .if1 .left)
+returns-2 c = (lower-clear (c .before .args .t1) (c .before .pre) (c .if1 .left), search needs)
 
 pub lower-digits-spec : {M : Type 1} → statement M
 lower-digits-spec =
