@@ -1,117 +1,59 @@
--- The mill figure as one division of natural numbers.
+-- The size of a mill figure, in range or beyond, and as an i32. The idea: equal fractions have the same nearest number, so the places below 1 may be cut to those
+-- that the significand has.
 use mathlib.Core.Path.{_≡_, sym, ap, ap₂, _∙_}
-use mathlib.Core.Bool.{Bool, true, false, not, cond}
-use Prim.Native.Nat.{ℕ, zero, suc, _+_, _-_, _*_, _/_, _^_, _≤_, _<_, zero-le}
-use native.Mathlib.Nat.{le-trans, lt-of-le-of-lt, sub-le, sub-zero, add-mul, mul-add, mul-comm, mul-one, mul-le-mul-right, mul-div-cancel, div-eq-of-lt, div-div-eq-div-mul, le-div-iff-mul-le, add-div-right, two-pow-succ}
-use native.Mathlib.Numerals.{add-one}
+use mathlib.Core.Bool.{Bool, true, false, cond}
+use Prim.Native.Nat.{ℕ, zero, suc, _+_, _-_, _*_, _/_, _%_, _^_, _≤_, _<_, compare, Ordering}
+use native.Mathlib.Nat.{le-trans, mul-le-mul-right, le-div-iff-mul-le}
 use native.Mathlib.Omega.{arith}
 use borrow.Author.Tests.{le-ltb, lt-ltb}
-use lib.Dec.{T, ltb, ltb→lt, nltb→le, lit<, lit≤}
-use lib.Arith.{digits-div}
-use lib.Pow.{pow-add, pow-pos, pow-mono}
-use lib.IntN.{ℤ, pos, negsuc, negℤ, _+ℤ_, _-ℤ_, +ℤ-idl}
-use lib.Signed.{shrZ}
-use mir.Syntax.{w32, w64}
-use mir.Val.{Fits, SFits, toZ, ofZ}
+use lib.Dec.{lit<, lit≤}
+use lib.Pow.{pow-pos, pow-mono}
+use lib.IntN.{ℤ, pos, negℤ, _-ℤ_, +ℤ-idl}
+use mir.Syntax.{w32}
+use mir.Val.{SFits, toZ, ofZ}
 use mir.ValLaws.{toZ-pos, toZ-ofZ}
 use Rattle.refusal.specs.Outcome.{Outcome, accepted, refused}
 use Rattle.level.specs.Double.{signed}
 use Rattle.level.proofs.Near.{pow-sum}
 use Rattle.level.proofs.Signs.{natAbs-signed}
+use Rattle.limbs.specs.Nearest.{rounded, nearestBy}
+use Rattle.limbs.proofs.Nearest.{order-lt, order-scale, nearest-at, nearest-ge, nearest-same}
 use Rattle.finish.specs.Figure.{beyond}
-use Rattle.finish.specs.Limbs.{hundredths}
 
 -- ---- the rounded size
 
-pow-twice : (r : ℕ) → 0 < r → 2 ^ r ≡ 2 ^ (r - 1) + 2 ^ (r - 1)
-pow-twice r h = let e : r ≡ suc (r - 1) = omega arith in ap (λ (k : ℕ). 2 ^ k) e ∙ two-pow-succ (r - 1)
+module _ (tie : ℕ → Bool) where
+  -- so many places below 1 that less than half a hundredth is left
+  pub hundredths-zero : (m r : ℕ) → m < 2 ^ 53 → 62 < r → 0 ≡ nearestBy tie (m * 100) (2 ^ r)
+  hundredths-zero m r h k =
+      let p : 2 ^ 63 ≤ 2 ^ r = pow-mono k in
+      let a : m * 100 < 2 ^ r = omega arith in
+      let b : m * 100 * 2 < 2 ^ r = omega arith in
+      let e : m * 100 ≡ 0 * 2 ^ r + m * 100 = omega arith in
+      sym (nearest-at tie (m * 100) (2 ^ r) 0 (m * 100) e a ∙ ap (λ (o : Ordering). rounded (tie 0) 0 o) (order-lt (m * 100 * 2) (2 ^ r) b))
 
-pub hundredths-zero : (m r : ℕ) (s : Bool) → m < 2 ^ 53 → 62 < r → 0 ≡ hundredths m r s
-hundredths-zero m r s h k =
-    let p : 61 ≤ r - 1 = omega arith in
-    let q : 2 ^ 61 ≤ 2 ^ (r - 1) = pow-mono p in
-    let g : 2 ^ r ≡ 2 ^ (r - 1) + 2 ^ (r - 1) = pow-twice r (omega arith) in
-    sym (div-eq-of-lt (lt-of-le-of-lt (sub-le (m * 100 + 2 ^ (r - 1)) (cond s 1 0)) (omega arith)))
+  -- otherwise by the last r digits and half of 2^r
+  pub hundredths-round : (n r rest half : ℕ) → 0 < r → rest ≡ n % 2 ^ r → half ≡ 2 ^ (r - 1) → rounded (tie (n / 2 ^ r)) (n / 2 ^ r) (compare rest half) ≡ nearestBy tie n (2 ^ r)
+  unfolding nearestBy
+  hundredths-round n r rest half p e f =
+      let w : half * 2 ≡ 2 ^ r = ap (λ (x : ℕ). x * 2) f ∙ pow-sum (r - 1) 1 r (omega arith) in
+      ap (λ (o : Ordering). rounded (tie (n / 2 ^ r)) (n / 2 ^ r) o) (order-scale rest half 2 (lit< tt) ∙ ap₂ (λ (x y : ℕ). compare (x * 2) y) e w)
 
-module _ (m r half : ℕ) (b : m < 2 ^ 53) (k : r ≤ 62) (e : half ≡ 2 ^ (r - 1)) where
-  pub half-fits : Fits w64 (m * 100 + half)
-  half-fits =
-      let p : r - 1 ≤ 61 = omega arith in
-      let q : 2 ^ (r - 1) ≤ 2 ^ 61 = pow-mono p in
-      omega arith
-
-  pub half-pos : 1 ≤ m * 100 + half
-  half-pos = let q = pow-pos (r - 1) in omega arith
-
-  pub hundredths-down : (s : Bool) → s ≡ true → (m * 100 + half - 1) / 2 ^ r ≡ hundredths m r s
-  hundredths-down s t = rw (e, t)
-
-  pub hundredths-up : (s : Bool) → s ≡ false → (m * 100 + half) / 2 ^ r ≡ hundredths m r s
-  hundredths-up s t = rw (e, t) (ap (λ (x : ℕ). x / 2 ^ r) (sym (sub-zero (m * 100 + 2 ^ (r - 1)))))
-
--- ---- the figure of n / h, with a half h of the divisor
-
--- floor (1/2 - m / 2h)
-module _ (h : ℕ) (hp : 0 < h) where
-  small : (x : ℕ) → x < h + h → x / (h + h) ≡ 0
-  small x l = div-eq-of-lt l
-
-  neg-floor : (m : ℕ) → shrZ (negℤ (pos m) +ℤ pos h) (h + h) ≡ negℤ (pos ((m + h - 1) / (h + h)))
-  neg-floor zero = ap pos (small (0 + h) (omega arith)) ∙ sym (ap (λ (x : ℕ). negℤ (pos x)) (small (0 + h - 1) (omega arith)))
-  neg-floor (suc k) = go (ltb h (suc k)) (ltb→lt h (suc k)) (nltb→le h (suc k))
+  -- m × 2^x units of 2^-1074 are m / 2^r, with r + x = 1074
+  pub hundredths-units : (m x r : ℕ) → r + x ≡ 1074 → nearestBy tie (m * 2 ^ x * 100) (2 ^ 1074) ≡ nearestBy tie (m * 100) (2 ^ r)
+  hundredths-units m x r e =
+      nearest-same tie (m * 2 ^ x * 100) (2 ^ 1074) (m * 100) (2 ^ r) (pow-pos 1074) (pow-pos r) (products m (2 ^ x) (2 ^ r) ∙ ap (λ (y : ℕ). m * 100 * y) (pow-sum r x 1074 e))
     where
-      go : (t : Bool) → (T t → h < suc k) → (T (not t) → suc k ≤ h)
-          → shrZ (cond t (negsuc (suc k - suc h)) (pos (h - suc k))) (h + h) ≡ negℤ (pos ((suc k + h - 1) / (h + h)))
-      go true l g =
-          let a = l tt in
-          let e : suc k + h - 1 ≡ suc k - suc h + (h + h) = omega arith in
-          let p : 0 < h + h = omega arith in
-          sym (ap (λ (x : ℕ). negℤ (pos (x / (h + h)))) e ∙ ap (λ (x : ℕ). negℤ (pos x)) (add-div-right (suc k - suc h) p ∙ add-one ((suc k - suc h) / (h + h))))
-      go false l g =
-          let a = g tt in
-          ap pos (small (h - suc k) (omega arith)) ∙ sym (ap (λ (x : ℕ). negℤ (pos x)) (small (suc k + h - 1) (omega arith)))
+      products : (m x w : ℕ) → m * x * 100 * w ≡ m * 100 * (w * x)
+      products m x w = omega arith
 
-abbrev pub halved : Bool → ℕ → ℕ → ℕ
-halved s n h = (n + h - cond s 1 0) / (h + h)
-
-pub floor-signed : (s : Bool) (n h : ℕ) → 0 < h → shrZ (signed s n +ℤ pos h) (h + h) ≡ signed s (halved s n h)
-floor-signed false n h k = ap (λ (x : ℕ). pos (x / (h + h))) (sym (sub-zero (n + h)))
-floor-signed true n h k = neg-floor h k n
-
-less-div : (y w : ℕ) (s : Bool) → 0 < y → 0 < w → (y * w - cond s 1 0) / w ≡ y - cond s 1 0
-less-div y w false h k = ap (λ (x : ℕ). x / w) (sub-zero (y * w)) ∙ mul-div-cancel y k ∙ sym (sub-zero y)
-less-div y w true h k =
-    let e : y ≡ y - 1 + 1 = omega arith in
-    let g : y * w ≡ (y - 1) * w + 1 * w = ap (λ (x : ℕ). x * w) e ∙ add-mul (y - 1) 1 w in
-    let f : y * w - 1 ≡ (y - 1) * w + (w - 1) = let o : 1 * w ≡ w = mul-comm 1 w ∙ mul-one w in omega arith in
-    let l : w - 1 < w = omega arith in
-    ap (λ (x : ℕ). x / w) f ∙ digits-div (y - 1) l
-
--- both sides of the fraction times k
-halved-scale : (s : Bool) (n h k : ℕ) → 0 < h → 0 < k → ((n + h) * k - cond s 1 0) / (k * (h + h)) ≡ halved s n h
-halved-scale s n h k H K =
-    let p : 0 < n + h = omega arith in
-    sym (div-div-eq-div-mul ((n + h) * k - cond s 1 0) k (h + h)) ∙ ap (λ (x : ℕ). x / (h + h)) (less-div (n + h) k s p K)
-
-pub halved-same : (s : Bool) (n h m k : ℕ) → 0 < h → 0 < k → n * k ≡ m * h → halved s n h ≡ halved s m k
-halved-same s n h m k H K e =
-    let top : (n + h) * k ≡ (m + k) * h = add-mul n h k ∙ ap₂ (λ (x y : ℕ). x + y) e (mul-comm h k) ∙ sym (add-mul m k h) in
-    let bottom : k * (h + h) ≡ h * (k + k) = mul-add k h h ∙ ap₂ (λ (x y : ℕ). x + y) (mul-comm k h) (mul-comm k h) ∙ sym (mul-add h k k) in
-    sym (halved-scale s n h k H K) ∙ ap₂ (λ (x y : ℕ). (x - cond s 1 0) / y) top bottom ∙ halved-scale s m k h K H
-
--- m × 2^x units of 2^-1074 are m / 2^r, with r + x = 1074
-pub halved-units : (m x r : ℕ) (s : Bool) → r + x ≡ 1074 → 0 < r → halved s (m * 2 ^ x * 200) (2 ^ 1074) ≡ hundredths m r s
-halved-units m x r s e h =
-    let g : r - 1 + (x + 1) ≡ 1074 = omega arith in
-    let p : 2 ^ 1074 ≡ 2 ^ (r - 1) * (2 ^ x * 2) = sym (pow-sum (r - 1) (x + 1) 1074 g) ∙ ap (λ (y : ℕ). 2 ^ (r - 1) * y) (pow-add 2 x 1) in
-    halved-same s (m * 2 ^ x * 200) (2 ^ 1074) (m * 100) (2 ^ (r - 1)) (pow-pos 1074) (pow-pos (r - 1)) (products m (2 ^ x) (2 ^ (r - 1)) ∙ ap (λ (y : ℕ). m * 100 * y) (sym p))
-    ∙ ap (λ (y : ℕ). (m * 100 + 2 ^ (r - 1) - cond s 1 0) / y) (sym (pow-twice r h))
-  where
-    products : (m x w : ℕ) → m * x * 200 * w ≡ m * 100 * (w * (x * 2))
-    products m x w = omega arith
+  -- a size of 2^52 or more, in units of 2^-1074, is beyond
+  pub far : (n : ℕ) → 2 ^ 1126 ≤ n → 2147483647 < nearestBy tie (n * 100) (2 ^ 1074)
+  far n h = le-trans (le-div-iff-mul-le (pow-pos 1074) .1 (le-trans (lit≤ tt) (mul-le-mul-right 100 h))) (nearest-ge tie (n * 100) (2 ^ 1074))
 
 -- ---- in range or beyond
 
+-- the answer for a figure
 abbrev answered : ℤ → Outcome ℤ
 answered z = cond (beyond z) (refused 15) (accepted z)
 
@@ -122,19 +64,6 @@ figure-beyond s n h = rw (natAbs-signed s n, lt-ltb 2147483647 n h)
 figure-within : (s : Bool) (n : ℕ) → n ≤ 2147483647 → accepted (signed s n) ≡ answered (signed s n)
 unfolding beyond
 figure-within s n h = rw (natAbs-signed s n, le-ltb 2147483647 n h)
-
--- a size of 2^52 or more, in units of 2^-1074, is beyond
-grows : (a h d : ℕ) → d ≤ h → a ≤ a + h - d
-grows a h d l = omega arith
-
-bit-le : (s : Bool) (h : ℕ) → 0 < h → cond s 1 0 ≤ h
-bit-le true h l = l
-bit-le false h l = zero-le
-
-pub far : (s : Bool) (n : ℕ) → 2 ^ 1126 ≤ n → 2147483647 < halved s (n * 200) (2 ^ 1074)
-far s n h =
-    le-div-iff-mul-le (pow-pos 1075) .1
-    (le-trans (lit≤ tt) (le-trans (mul-le-mul-right 200 h) (grows (n * 200) (2 ^ 1074) (cond s 1 0) (bit-le s (2 ^ 1074) (pow-pos 1074)))))
 
 -- ---- a figure as an i32
 

@@ -1,9 +1,10 @@
--- The sum is the double nearest to the kept value among all finite doubles.
+-- The sum is the double nearest to the kept value among all finite doubles. The idea: every finite double is m × 2^j units with m below 2^53; one with fewer
+-- zeros than the sum's unit is smaller than any number of 53 digits of that unit, so farther away, and any other is a whole number of that unit.
 use mathlib.Core.Path.{_≡_, refl, sym, ap, ap₂, _∙_, subst}
 use mathlib.Core.Logic.{_⊎_, inl, inr, ⊎-elim}
 use mathlib.Core.Bool.{Bool, true, false, not, cond}
-use Prim.Native.Nat.{ℕ, zero, suc, _+_, _-_, _*_, _/_, _%_, _^_, _≤_, _<_}
-use native.Mathlib.Nat.{le-trans, le-of-eq, lt-irrefl, mul-assoc, mul-le-mul-right, mul-lt-mul-of-pos-right, eq-of-mul-eq-mul-right, mod-lt, div-add-mod', le-div-iff-mul-le}
+use Prim.Native.Nat.{ℕ, suc, _+_, _-_, _*_, _%_, _^_, _≤_, _<_}
+use native.Mathlib.Nat.{le-trans, le-of-eq, eq-or-lt-of-le, mul-assoc, mul-le-mul-right, mul-lt-mul-of-pos-right, eq-of-mul-eq-mul-right, le-div-iff-mul-le}
 use native.Mathlib.Omega.{arith}
 use borrow.Author.Tests.{leb-false}
 use lib.Dec.{ltb, eqb}
@@ -15,18 +16,20 @@ use lib.Ieee.{Float, nan, inf, fin, binary64, down, ofBits, toBits, round}
 use lib.Ieee.Bits.{ofBits-toBits, toBits-lt, is-true}
 use lib.Ieee.Fits.{down-pos, round-fits}
 use lib.Ieee.Exact.{HasValue}
-use lib.Ieee.Nearest.{closest}
 use lib.Ieee.Scale as Scale
 use Rattle.integers.proofs.Diff.{ints}
 use Rattle.level.specs.Double.{field, fraction, significand, size, negative, finite, signed, value}
 use Rattle.level.specs.Cut.{apart}
 use Rattle.level.proofs.Signs.{sub-signed, natAbs-signed}
 use Rattle.level.proofs.Double.{significand-lt}
-use Rattle.level.proofs.Near.{closest-cases, pow-sum}
+use Rattle.level.proofs.Near.{pow-sum}
 use Rattle.level.proofs.Binary64.{finite-binary64, value-binary64}
 use Rattle.finish.specs.Sum.{limit, nearestDouble, tooLarge, Nearest}
-use Rattle.finish.specs.Limbs.{dropped, nearby}
-use Rattle.finish.proofs.Pattern.{le-or-lt, reaches, limit-value, limit-number, limit-finite, pattern-bits}
+use Rattle.limbs.specs.Nearest.{odd, nearestBy}
+use Rattle.limbs.specs.Packed.{droppedDigits, significandOf, signBit}
+use Rattle.limbs.proofs.Nearest.{le-or-lt, Halfway, nearest-near, nearest-even}
+use Rattle.limbs.proofs.Packed.{reaches, packed-bits}
+use Rattle.finish.proofs.Limit.{limit-value, limit-number, limit-finite}
 
 -- ---- the number of units nearest to n among all numbers of units
 
@@ -34,84 +37,63 @@ use Rattle.finish.proofs.Pattern.{le-or-lt, reaches, limit-value, limit
 abbrev Best : ℕ → ℕ → ℕ → ℕ → Type 0
 Best n u x y = (apart n (y * u) ≤ apart n (x * u)) × ((x ≡ y → ⊥) → apart n (y * u) ≡ apart n (x * u) → y % 2 ≡ 0)
 
-module _ (u q r x : ℕ) (h : r < u) where
-  -- the multiples at most q, and those above
-  low : x ≤ q → x * u ≤ q * u
-  low l = mul-le-mul-right u l
+-- y units are at most half a unit from n
+module _ (n u x y : ℕ) (p : 0 < u) (over : y * u * 2 ≤ n * 2 + u) (under : n * 2 ≤ y * u * 2 + u) where
+  near-best : apart n (y * u) ≤ apart n (x * u)
+  near-best =
+      ⊎-elim
+      (λ g. ⊎-elim (λ e. let m : x * u ≡ y * u = ap (λ (z : ℕ). z * u) e in omega arith) (λ l. let m : suc x * u ≤ y * u = mul-le-mul-right u l in omega arith) (eq-or-lt-of-le g))
+      (λ l. let m : suc y * u ≤ x * u = mul-le-mul-right u l in omega arith)
+      (le-or-lt x y)
 
-  high : q < x → q * u + u ≤ x * u
-  high l = let m : suc q * u ≤ x * u = mul-le-mul-right u l in omega arith
+  half-best : (x ≡ y → ⊥) → apart n (y * u) ≡ apart n (x * u) → Halfway n u y
+  half-best d e =
+      ⊎-elim
+      (λ g. let m : suc x * u ≤ y * u = mul-le-mul-right u (lt-of-le-ne g d) in inl (omega arith))
+      (λ l. let m : suc y * u ≤ x * u = mul-le-mul-right u l in inr (omega arith))
+      (le-or-lt x y)
 
-  down-near : r * 2 ≤ u → apart (q * u + r) (q * u) ≤ apart (q * u + r) (x * u)
-  down-near l = ⊎-elim (λ g. let m = low g in omega arith) (λ g. let m = high g in omega arith) (le-or-lt x q)
-
-  up-near : u ≤ r * 2 → apart (q * u + r) (suc q * u) ≤ apart (q * u + r) (x * u)
-  up-near l = ⊎-elim (λ g. let m = low g in omega arith) (λ g. let m = high g in omega arith) (le-or-lt x q)
-
-below-far : (u q r x : ℕ) → r < u → r * 2 < u → (x ≡ q → ⊥) → apart (q * u + r) (q * u) ≡ apart (q * u + r) (x * u) → ⊥
-below-far u q r x h l n e = ⊎-elim (λ g. under g) (λ g. let m = high u q r x h g in omega arith) (le-or-lt x q)
-  where
-    under : x ≤ q → ⊥
-    under g = let k : x < q = lt-of-le-ne g n in let m = high u x r q h k in omega arith
-
-above-far : (u q r x : ℕ) → r < u → u < r * 2 → (x ≡ suc q → ⊥) → apart (q * u + r) (suc q * u) ≡ apart (q * u + r) (x * u) → ⊥
-above-far u q r x h l n e = ⊎-elim (λ g. let m = low u q r x h g in omega arith) (λ g. over g) (le-or-lt x q)
-  where
-    over : q < x → ⊥
-    over g = let k : suc q < x = lt-of-le-ne g (λ f. n (sym f)) in let m = high u (suc q) r x h k in omega arith
-
-tie-near : (u q r x b : ℕ) → r < u → r * 2 ≡ u → b < 2 → apart (q * u + r) ((q + b) * u) ≤ apart (q * u + r) (x * u)
-tie-near u q r x zero h e l = let m = down-near u q r x h (omega arith) in omega arith
-tie-near u q r x (suc zero) h e l = let m = up-near u q r x h (omega arith) in omega arith
-tie-near u q r x (suc (suc b)) h e l = absurd (lt-irrefl 0 (omega arith))
-
-pub closest-best : (n u x : ℕ) → 0 < u → Best n u x (closest n u)
-closest-best n u x h =
-    let e = div-add-mod' n u in
-    let r = n % u in
-    let q = n / u in
-    let l : n % u < u = mod-lt n h in
-    closest-cases (Best n u x) n u
-    (λ g. subst (λ (m : ℕ). Best m u x q) e (down-near u q r x l (omega arith), λ d f. absurd (below-far u q r x l g d f)))
-    (λ g. subst (λ (m : ℕ). Best m u x (q + q % 2)) e (tie-near u q r x (q % 2) l g (omega arith), λ d f. omega arith))
-    (λ g. subst (λ (m : ℕ). Best m u x (suc q)) e (up-near u q r x l (omega arith), λ d f. absurd (above-far u q r x l g d f)))
+nearest-best : (n u x : ℕ) → 0 < u → Best n u x (nearestBy odd n u)
+nearest-best n u x h =
+    let w = nearest-near odd n u h in
+    (near-best n u x (nearestBy odd n u) h (w .0) (w .1), λ d e. nearest-even n u h (half-best n u x (nearestBy odd n u) h (w .0) (w .1) d e))
 
 -- ---- among all m × 2^j with m of at most 53 digits
 
 -- a number of fewer digits than n keeps is farther away than 2^52 of the units that n is rounded to
-fewer : (n m j : ℕ) → m < 2 ^ 53 → j < dropped n → apart n (nearby n * 2 ^ dropped n) < apart n (m * 2 ^ j)
+fewer : (n m j : ℕ) → m < 2 ^ 53 → j < droppedDigits n → apart n (significandOf n * 2 ^ droppedDigits n) < apart n (m * 2 ^ j)
 fewer n m j h l =
-    let d = dropped n in
+    let d = droppedDigits n in
     let w : 2 ^ 52 * 2 ^ d ≤ n = le-div-iff-mul-le (pow-pos d) .0 (reaches n (omega arith)) in
     let v : m * 2 ^ j < 2 ^ 53 * 2 ^ j = mul-lt-mul-of-pos-right h (pow-pos j) in
     let k : 53 + j ≤ 52 + d = omega arith in
     let t : 2 ^ 53 * 2 ^ j ≤ 2 ^ 52 * 2 ^ d = le-trans (le-of-eq (sym (pow-add 2 53 j))) (le-trans (pow-mono k) (le-of-eq (pow-add 2 52 d))) in
-    let b = closest-best n (2 ^ d) (2 ^ 52) (pow-pos d) .0 in
-    less n (m * 2 ^ j) (2 ^ 53 * 2 ^ j) (2 ^ 52 * 2 ^ d) (apart n (nearby n * 2 ^ d)) v t w b
+    let b = nearest-best n (2 ^ d) (2 ^ 52) (pow-pos d) .0 in
+    less n (m * 2 ^ j) (2 ^ 53 * 2 ^ j) (2 ^ 52 * 2 ^ d) (apart n (significandOf n * 2 ^ d)) v t w b
   where
     less : (n a b c x : ℕ) → a < b → b ≤ c → c ≤ n → x ≤ apart n c → x < apart n a
     less n a b c x h k l m = omega arith
 
 -- a number of as many or more zeros is a number of those units
-module _ (n m j : ℕ) (l : dropped n ≤ j) where
-  same-unit : m * 2 ^ (j - dropped n) * 2 ^ dropped n ≡ m * 2 ^ j
-  same-unit = mul-assoc m (2 ^ (j - dropped n)) (2 ^ dropped n) ∙ ap (λ (x : ℕ). m * x) (pow-sum (j - dropped n) (dropped n) j (omega arith))
+module _ (n m j : ℕ) (l : droppedDigits n ≤ j) where
+  same-unit : m * 2 ^ (j - droppedDigits n) * 2 ^ droppedDigits n ≡ m * 2 ^ j
+  same-unit = mul-assoc m (2 ^ (j - droppedDigits n)) (2 ^ droppedDigits n) ∙ ap (λ (x : ℕ). m * x) (pow-sum (j - droppedDigits n) (droppedDigits n) j (omega arith))
 
-  more : Best n (2 ^ dropped n) (m * 2 ^ (j - dropped n)) (nearby n)
-  more = closest-best n (2 ^ dropped n) (m * 2 ^ (j - dropped n)) (pow-pos (dropped n))
+  more : Best n (2 ^ droppedDigits n) (m * 2 ^ (j - droppedDigits n)) (significandOf n)
+  more = nearest-best n (2 ^ droppedDigits n) (m * 2 ^ (j - droppedDigits n)) (pow-pos (droppedDigits n))
 
-nearest-near : (n m j : ℕ) → m < 2 ^ 53 → apart n (nearby n * 2 ^ dropped n) ≤ apart n (m * 2 ^ j)
-nearest-near n m j h =
-    ⊎-elim (λ l. le-trans (more n m j l .0) (le-of-eq (ap (apart n) (same-unit n m j l)))) (λ l. let g = fewer n m j h l in omega arith) (le-or-lt (dropped n) j)
+digits-near : (n m j : ℕ) → m < 2 ^ 53 → apart n (significandOf n * 2 ^ droppedDigits n) ≤ apart n (m * 2 ^ j)
+digits-near n m j h =
+    ⊎-elim (λ l. le-trans (more n m j l .0) (le-of-eq (ap (apart n) (same-unit n m j l)))) (λ l. let g = fewer n m j h l in omega arith) (le-or-lt (droppedDigits n) j)
 
-nearest-even : (n m j : ℕ) → m < 2 ^ 53 → (m * 2 ^ j ≡ nearby n * 2 ^ dropped n → ⊥) → apart n (nearby n * 2 ^ dropped n) ≡ apart n (m * 2 ^ j) → nearby n % 2 ≡ 0
-nearest-even n m j h d e =
+digits-even : (n m j : ℕ) → m < 2 ^ 53 → (m * 2 ^ j ≡ significandOf n * 2 ^ droppedDigits n → ⊥) → apart n (significandOf n * 2 ^ droppedDigits n) ≡ apart n (m * 2 ^ j) → significandOf n % 2 ≡ 0
+digits-even n m j h d e =
     ⊎-elim
-    (λ l. more n m j l .1 (λ g. d (sym (same-unit n m j l) ∙ ap (λ (x : ℕ). x * 2 ^ dropped n) g)) (e ∙ ap (apart n) (sym (same-unit n m j l))))
+    (λ l. more n m j l .1 (λ g. d (sym (same-unit n m j l) ∙ ap (λ (x : ℕ). x * 2 ^ droppedDigits n) g)) (e ∙ ap (apart n) (sym (same-unit n m j l))))
     (λ l. absurd (farther (fewer n m j h l)))
-    (le-or-lt (dropped n) j)
+    (le-or-lt (droppedDigits n) j)
   where
-    farther : apart n (nearby n * 2 ^ dropped n) < apart n (m * 2 ^ j) → ⊥
+    farther : apart n (significandOf n * 2 ^ droppedDigits n) < apart n (m * 2 ^ j) → ⊥
     farther g = omega arith
 
 -- ---- with signs
@@ -132,14 +114,14 @@ by-sign false false = inl refl
 
 module _ (s : Bool) (n : ℕ) where
   abbrev size-of : ℕ
-  size-of = nearby n * 2 ^ dropped n
+  size-of = significandOf n * 2 ^ droppedDigits n
 
   near-signed : (t : Bool) (m j : ℕ) → m < 2 ^ 53 → natAbs (signed s n -ℤ signed s size-of) ≤ natAbs (signed s n -ℤ signed t (m * 2 ^ j))
   near-signed t m j h =
       le-trans (le-of-eq (same-sign s n size-of))
       (⊎-elim
-      (λ e. le-trans (nearest-near n m j h) (le-of-eq (sym (turned e ∙ same-sign s n (m * 2 ^ j)))))
-      (λ e. le-trans (nearest-near n 0 0 (pow-pos 53)) (le-trans (farther n (m * 2 ^ j)) (le-of-eq (sym (turned e ∙ other-sign s n (m * 2 ^ j))))))
+      (λ e. le-trans (digits-near n m j h) (le-of-eq (sym (turned e ∙ same-sign s n (m * 2 ^ j)))))
+      (λ e. le-trans (digits-near n 0 0 (pow-pos 53)) (le-trans (farther n (m * 2 ^ j)) (le-of-eq (sym (turned e ∙ other-sign s n (m * 2 ^ j))))))
       (by-sign s t))
     where
       turned : {u : Bool} → t ≡ u → natAbs (signed s n -ℤ signed t (m * 2 ^ j)) ≡ natAbs (signed s n -ℤ signed u (m * 2 ^ j))
@@ -156,23 +138,23 @@ module _ (s : Bool) (n : ℕ) where
       zeros true = refl
       zeros false = refl
 
-  even-signed : (t : Bool) (m j : ℕ) → m < 2 ^ 53 → (signed t (m * 2 ^ j) ≡ signed s size-of → ⊥) → natAbs (signed s n -ℤ signed s size-of) ≡ natAbs (signed s n -ℤ signed t (m * 2 ^ j)) → nearby n % 2 ≡ 0
+  even-signed : (t : Bool) (m j : ℕ) → m < 2 ^ 53 → (signed t (m * 2 ^ j) ≡ signed s size-of → ⊥) → natAbs (signed s n -ℤ signed s size-of) ≡ natAbs (signed s n -ℤ signed t (m * 2 ^ j)) → significandOf n % 2 ≡ 0
   even-signed t m j h d e =
       let e′ : apart n size-of ≡ natAbs (signed s n -ℤ signed t (m * 2 ^ j)) = sym (same-sign s n size-of) ∙ e in
       ⊎-elim (λ g. same g e′) (λ g. other g e′) (by-sign s t)
     where
-      same : t ≡ s → apart n size-of ≡ natAbs (signed s n -ℤ signed t (m * 2 ^ j)) → nearby n % 2 ≡ 0
+      same : t ≡ s → apart n size-of ≡ natAbs (signed s n -ℤ signed t (m * 2 ^ j)) → significandOf n % 2 ≡ 0
       same g f =
-          nearest-even n m j h (λ k. d (ap₂ (λ (x : Bool) (y : ℕ). signed x y) g k))
+          digits-even n m j h (λ k. d (ap₂ (λ (x : Bool) (y : ℕ). signed x y) g k))
           (f ∙ ap (λ (x : Bool). natAbs (signed s n -ℤ signed x (m * 2 ^ j))) g ∙ same-sign s n (m * 2 ^ j))
 
-      other : t ≡ not s → apart n size-of ≡ natAbs (signed s n -ℤ signed t (m * 2 ^ j)) → nearby n % 2 ≡ 0
+      other : t ≡ not s → apart n size-of ≡ natAbs (signed s n -ℤ signed t (m * 2 ^ j)) → significandOf n % 2 ≡ 0
       other g f =
           let a : apart n size-of ≡ n + m * 2 ^ j = f ∙ ap (λ (x : Bool). natAbs (signed s n -ℤ signed x (m * 2 ^ j))) g ∙ other-sign s n (m * 2 ^ j) in
-          let b = nearest-near n 0 0 (pow-pos 53) in
+          let b = digits-near n 0 0 (pow-pos 53) in
           let z : m * 2 ^ j ≡ 0 = omega arith in
           let w : apart n size-of ≡ apart n (0 * 2 ^ 0) = omega arith in
-          nearest-even n 0 0 (pow-pos 53) (λ k. d (ap (signed t) z ∙ nothing t ∙ ap (signed s) k)) w
+          digits-even n 0 0 (pow-pos 53) (λ k. d (ap (signed t) z ∙ nothing t ∙ ap (signed s) k)) w
 
 -- ---- the bits of the sum
 
@@ -189,9 +171,9 @@ significand-even b e = go (eqb (field b) 0)
     go true = omega arith
     go false = omega arith
 
-pattern-even : (s : Bool) (d q : ℕ) → q % 2 ≡ 0 → (cond s (2 ^ 63) 0 + (d * 2 ^ 52 + q)) % 2 ≡ 0
-pattern-even true d q e = omega arith
-pattern-even false d q e = omega arith
+packed-even : (s : Bool) (d q : ℕ) → q % 2 ≡ 0 → (signBit s + (d * 2 ^ 52 + q)) % 2 ≡ 0
+packed-even true d q e = omega arith
+packed-even false d q e = omega arith
 
 module _ (s : Bool) (n : ℕ) (h : n < limit) where
   abbrev x : Float
@@ -206,13 +188,13 @@ module _ (s : Bool) (n : ℕ) (h : n < limit) where
   bits-finite : finite bits ≡ true
   bits-finite = sym (finite-binary64 bits) ∙ ap Scale.finite back ∙ is-true (Scale.finite x) (limit-number s n h)
 
-  bits-value : (negative bits ≡ s) × (size bits ≡ nearby n * 2 ^ dropped n)
+  bits-value : (negative bits ≡ s) × (size bits ≡ significandOf n * 2 ^ droppedDigits n)
   bits-value =
-      unique x s (negative bits) (nearby n * 2 ^ dropped n) (size bits) (limit-value s n h)
+      unique x s (negative bits) (significandOf n * 2 ^ droppedDigits n) (size bits) (limit-value s n h)
       (subst (λ (y : Float). HasValue y (negative bits) (size bits) (2 ^ 1074)) back (value-binary64 bits (toBits-lt binary64 x (round-fits binary64 s n (2 ^ 1074))) bits-finite))
 
-  bits-even : nearby n % 2 ≡ 0 → significand bits % 2 ≡ 0
-  bits-even e = significand-even bits (ap (λ (b : ℕ). b % 2) (pattern-bits s n (limit-finite n h)) ∙ pattern-even s (dropped n) (nearby n) e)
+  bits-even : significandOf n % 2 ≡ 0 → significand bits % 2 ≡ 0
+  bits-even e = significand-even bits (ap (λ (b : ℕ). b % 2) (packed-bits s n (limit-finite n h)) ∙ packed-even s (droppedDigits n) (significandOf n) e)
 
 size-sign : (k : ℤ) → k ≡ signed (not (nonNeg k)) (natAbs k)
 size-sign (pos n) = refl
@@ -225,8 +207,8 @@ nearest-double k e =
     let n = natAbs k in
     let h : n < limit = leb-false limit n e in
     let b = bits s n h in
-    let v : value b ≡ signed s (nearby n * 2 ^ dropped n) = ap₂ (λ (t : Bool) (a : ℕ). signed t a) (bits-value s n h .0) (bits-value s n h .1) in
-    let d : natAbs (k -ℤ value b) ≡ natAbs (signed s n -ℤ signed s (nearby n * 2 ^ dropped n)) = ap₂ (λ (x y : ℤ). natAbs (x -ℤ y)) (size-sign k) v in
+    let v : value b ≡ signed s (significandOf n * 2 ^ droppedDigits n) = ap₂ (λ (t : Bool) (a : ℕ). signed t a) (bits-value s n h .0) (bits-value s n h .1) in
+    let d : natAbs (k -ℤ value b) ≡ natAbs (signed s n -ℤ signed s (significandOf n * 2 ^ droppedDigits n)) = ap₂ (λ (x y : ℤ). natAbs (x -ℤ y)) (size-sign k) v in
     let f : (c : ℕ) → natAbs (signed s n -ℤ value c) ≡ natAbs (k -ℤ value c) = λ c. ap (λ (x : ℤ). natAbs (x -ℤ value c)) (sym (size-sign k)) in
     record {
       number = bits-finite s n h;

@@ -1,4 +1,4 @@
--- The figure and the line, from the sum.
+-- The figure and the line, from the sum. The idea: one case split by the kept value's size (`by-size`) and one by the lookup (`by-lookup`) serve all three.
 use mathlib.Core.Path.{_≡_, refl, ap, subst}
 use mathlib.Core.Bool.{Bool, true, false, cond}
 use mathlib.Core.List.{List, [], _∷_}
@@ -29,61 +29,49 @@ use Rattle.finish.proofs.Sums.{nearest-finite}
 pub never : {A : Type 0} → _≡_ {A = ℕ} 0 1 → A
 never e = absurd (lt-irrefl 0 (omega arith))
 
--- ---- the sum
+-- ---- by whether the kept value is too large; where it is not, its sum is finite
+
+by-size : (k : ℤ) (P : Bool → Type 0) → P true → (T (finite (nearestDouble k)) → P false) → P (tooLarge k)
+by-size k P large small = go (tooLarge k) (nearest-finite k)
+  where
+    go : (b : Bool) → (b ≡ false → T (finite (nearestDouble k))) → P b
+    go true h = large
+    go false h = small (h refl)
+
+-- the sum of a section that is there, with b for whether it is too large
+abbrev sumBy : Section → Bool → Outcome Float
+sumBy s b = cond b (refused 14) (accepted (nearestDouble (kept s)))
 
 pub sum-for : (s : Section) → sumAnswer (sumFor (kept s)) ≡ sumOf (some s)
-sum-for s = by (tooLarge (kept s))
-  where
-    by : (b : Bool) → sumAnswer (cond b TooLarge (Finite (nearestDouble (kept s)))) ≡ cond b (refused 14) (accepted (nearestDouble (kept s)))
-    by true = refl
-    by false = refl
+sum-for s = by-size (kept s) (λ (b : Bool). sumAnswer (cond b TooLarge (Finite (nearestDouble (kept s)))) ≡ sumBy s b) refl (λ f. refl)
 
 pub finite-for : (k : ℤ) → FiniteSum (sumFor k)
-finite-for k = by (tooLarge k) (nearest-finite k)
-  where
-    by : (b : Bool) → (b ≡ false → T (finite (nearestDouble k))) → FiniteSum (cond b TooLarge (Finite (nearestDouble k)))
-    by true h = tt
-    by false h = h refl
+finite-for k = by-size k (λ (b : Bool). FiniteSum (cond b TooLarge (Finite (nearestDouble k)))) tt (λ f. f)
+
+pub figure-by : (s : Section) → figureOf (some s) ≡ figureBy (sumOf (some s))
+figure-by s = by-size (kept s) (λ (b : Bool). cond b (refused 14) (outcome (ground 15 (beyond (figureFor s)) ∷ []) (figureFor s)) ≡ figureBy (sumBy s b)) refl (λ f. refl)
+
+pub line-by : (s : Section) → lineOf (some s) ≡ lineBy (s .key) (s .count) (sumOf (some s))
+line-by s = by-size (kept s) (λ (b : Bool). cond b (refused 14) (outcome (ground 15 (beyond (figureFor s)) ∷ []) (lineFor s)) ≡ lineBy (s .key) (s .count) (sumBy s b)) refl (λ f. refl)
+
+-- ---- on a table
 
 -- a float that a sum gives is finite
-sum-finite : (o : Option Section) (x : Float) → accepted x ≡ sumOf o → T (finite x)
-sum-finite none x e = never (cc)
-sum-finite (some s) x e = by (tooLarge (kept s)) (nearest-finite (kept s)) e
-  where
-    by : (b : Bool) → (b ≡ false → T (finite (nearestDouble (kept s)))) → accepted x ≡ cond b (refused 14) (accepted (nearestDouble (kept s))) → T (finite x)
-    by true h e = never (cc)
-    by false h e = let q : x ≡ nearestDouble (kept s) = cc in rw q (h refl)
-
 pub finite-outcome : (a : SectionSum) (s : List ℕ) (g k : ℕ) → sumAnswer a ≡ sumOutcome s g k → FiniteSum a
 finite-outcome Absent s g k e = tt
 finite-outcome TooLarge s g k e = tt
 finite-outcome NotSound s g k e = tt
-finite-outcome (Finite x) s g k e = by (sound s g) e
+finite-outcome (Finite x) s g k e = by (sound s g) (find k (sections s g)) e
   where
-    by : (b : Bool) → accepted x ≡ cond b (sumOf (find k (sections s g))) (refused 7) → T (finite x)
-    by true e = sum-finite (find k (sections s g)) x e
-    by false e = never (cc)
+    by : (b : Bool) (o : Option Section) → accepted x ≡ cond b (sumOf o) (refused 7) → T (finite x)
+    by false o e = never (cc)
+    by true none e = never (cc)
+    by true (some s) e =
+        by-size (kept s) (λ (b : Bool). accepted x ≡ sumBy s b → T (finite x)) (λ e. never (cc)) (λ f e. let q : x ≡ nearestDouble (kept s) = cc in rw q f) e
 
--- ---- the figure
+-- ---- the line of a figure
 
-pub figure-by : (o : Option Section) → figureOf o ≡ figureBy (sumOf o)
-figure-by none = refl
-figure-by (some s) = by (tooLarge (kept s))
-  where
-    by : (b : Bool) → cond b (refused 14) (outcome (ground 15 (beyond (figureFor s)) ∷ []) (figureFor s)) ≡ figureBy (cond b (refused 14) (accepted (nearestDouble (kept s))))
-    by true = refl
-    by false = refl
-
--- ---- the line
-
-pub line-by : (s : Section) → lineOf (some s) ≡ lineBy (s .key) (s .count) (sumOf (some s))
-line-by s = by (tooLarge (kept s))
-  where
-    by : (b : Bool) → cond b (refused 14) (outcome (ground 15 (beyond (figureFor s)) ∷ []) (lineFor s)) ≡ lineBy (s .key) (s .count) (cond b (refused 14) (accepted (nearestDouble (kept s))))
-    by true = refl
-    by false = refl
-
--- a figure that is given, and one that is refused, with what is made of it
+-- a figure that is given, and one that is refused, and what a line makes of it
 pub given : {A : Type 0} (f : ℤ → A) (b : Bool) (x z : ℤ) → accepted z ≡ cond b (refused 15) (accepted x) → accepted (f z) ≡ cond b (refused 15) (accepted (f x))
 given f true x z e = never (cc)
 given f false x z e = let q : z ≡ x = cc in ap (λ (y : ℤ). accepted (f y)) q
@@ -94,11 +82,16 @@ withheld a false x n e = never (cc)
 
 -- ---- on a table, by what a lookup says of it
 
-at-section : {A : Type 0} (f : Option Section → Outcome A) (s : List ℕ) (g k : ℕ) (o : Option Section) → sound s g ≡ true → find k (sections s g) ≡ o → f o ≡ finishing f s g k
-at-section f s g k o h e = rw (h, e)
+-- what f gives for each case of a lookup
+abbrev pub outcomeOf : {A : Type 0} → (Option Section → Outcome A) → Lookup → Outcome A
+outcomeOf f (Found r) = f (some (meaning r))
+outcomeOf f Missing = f none
+outcomeOf f Unsound = refused 7
 
-not-sound : {A : Type 0} (f : Option Section → Outcome A) (s : List ℕ) (g k : ℕ) → sound s g ≡ false → refused 7 ≡ finishing f s g k
-not-sound f s g k h = rw h
+by-lookup : {A : Type 0} (f : Option Section → Outcome A) (a : Lookup) (s : List ℕ) (g k : ℕ) → LookedUp a s g k → outcomeOf f a ≡ finishing f s g k
+by-lookup f (Found r) s g k l = rw (l .0, l .1)
+by-lookup f Missing s g k l = rw (l .0, l .1)
+by-lookup f Unsound s g k l = rw l
 
 module _ (a : Lookup) (s : List ℕ) (g k : ℕ) (l : LookedUp a s g k) where
   says : {b : Lookup} → a ≡ b → LookedUp b s g k
@@ -107,11 +100,6 @@ module _ (a : Lookup) (s : List ℕ) (g k : ℕ) (l : LookedUp a s g k) where
   pub found-sound : (r : Record) → a ≡ Found r → T (soundRecord r)
   found-sound r e = says e .2
 
-  pub when-found : {A : Type 0} (f : Option Section → Outcome A) (r : Record) → a ≡ Found r → f (some (meaning r)) ≡ finishing f s g k
-  when-found f r e = at-section f s g k (some (meaning r)) (says e .0) (says e .1)
-
-  pub when-missing : {A : Type 0} (f : Option Section → Outcome A) → a ≡ Missing → f none ≡ finishing f s g k
-  when-missing f e = at-section f s g k none (says e .0) (says e .1)
-
-  pub when-unsound : {A : Type 0} (f : Option Section → Outcome A) → a ≡ Unsound → refused 7 ≡ finishing f s g k
-  when-unsound f e = not-sound f s g k (says e)
+  -- the answer in any case of the lookup
+  pub finished : {A : Type 0} (f : Option Section → Outcome A) (b : Lookup) → a ≡ b → outcomeOf f b ≡ finishing f s g k
+  finished f b e = by-lookup f b s g k (says e)

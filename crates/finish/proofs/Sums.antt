@@ -1,8 +1,8 @@
--- The answer that a sign and 63 bits stand for, and that of a kept value.
+-- The answer of a kept value is that of its bits. The idea: both say too large from the same size on, and below it the bits are the nearest double's.
 use mathlib.Core.Path.{_≡_, refl, sym, ap, _∙_}
 use mathlib.Core.Logic.{_↔_, ⊎-elim}
-use mathlib.Core.Bool.{Bool, true, false, not, cond}
-use Prim.Native.Nat.{ℕ, _+_, _*_, _%_, _^_, _≤_, _<_}
+use mathlib.Core.Bool.{Bool, true, false, not}
+use Prim.Native.Nat.{ℕ, _+_, _%_, _^_, _≤_, _<_}
 use native.Mathlib.Nat.{add-comm, zero-add}
 use native.Mathlib.Omega.{arith}
 use borrow.Author.Tests.{lt-leb, le-leb, leb-true, leb-false}
@@ -14,57 +14,60 @@ use lib.Ieee.{inf, binary64, ofBits, nanBits, size, round}
 use lib.Ieee.Bits.{nanBits-above}
 use lib.Ieee.Scale.{finite}
 use Rattle.finish.specs.Sum.{limit, nearestDouble, tooLarge}
-use Rattle.finish.specs.Steps.{sumFor}
-use Rattle.finish.specs.Limbs.{pattern, made}
+use Rattle.limbs.specs.Nearest.{nearestBy}
+use Rattle.limbs.specs.Packed.{packed, infinite, signBit}
+use Rattle.limbs.proofs.Nearest.{le-or-lt}
+use Rattle.limbs.proofs.Packed.{packed-value}
+use Rattle.finish.specs.Steps.{sumFor, sumOfBits}
 use Rattle.finish.specs.declared.SectionSum.the-variants.{Finite, TooLarge}
-use Rattle.finish.proofs.Pattern.{le-or-lt, limit-number, limit-infinite, limit-finite, limit-inf, inf-limit, pattern-value}
+use Rattle.finish.proofs.Limit.{limit-number, limit-infinite, limit-finite, limit-inf, inf-limit}
 
 -- ---- bits that are no NaN's
 
-no-nan : (n : ℕ) → n % 2 ^ 63 ≤ 2047 * 2 ^ 52 → T (not (nanBits binary64 n))
-no-nan n h = rw (nanBits-above binary64 n) (le→nltb (2047 * 2 ^ 52) (n % 2 ^ 63) h)
+no-nan : (n : ℕ) → n % 2 ^ 63 ≤ infinite → T (not (nanBits binary64 n))
+no-nan n h = rw (nanBits-above binary64 n) (le→nltb (infinite) (n % 2 ^ 63) h)
 
-pub plain-number : (n : ℕ) → n < 2047 * 2 ^ 52 → T (not (nanBits binary64 n))
+pub plain-number : (n : ℕ) → n < infinite → T (not (nanBits binary64 n))
 plain-number n h = no-nan n (omega arith)
 
-pub negative-number : (n : ℕ) → n < 2047 * 2 ^ 52 → T (not (nanBits binary64 (n + 2 ^ 63)))
+pub negative-number : (n : ℕ) → n < infinite → T (not (nanBits binary64 (n + 2 ^ 63)))
 negative-number n h = no-nan (n + 2 ^ 63) (omega arith)
 
 -- ---- the answer of bits
 
-pub made-large : (n : ℕ) (s : Bool) → 2047 * 2 ^ 52 ≤ n → TooLarge ≡ made n s
-made-large n s h = rw (le-leb (2047 * 2 ^ 52) n h)
+pub bits-large : (n : ℕ) (s : Bool) → infinite ≤ n → TooLarge ≡ sumOfBits n s
+bits-large n s h = rw (le-leb (infinite) n h)
 
-made-finite : (n : ℕ) (s : Bool) → n < 2047 * 2 ^ 52 → Finite (ofBits binary64 (cond s (2 ^ 63) 0 + n)) ≡ made n s
-made-finite n s h = rw (lt-leb (2047 * 2 ^ 52) n h)
+bits-finite : (n : ℕ) (s : Bool) → n < infinite → Finite (ofBits binary64 (signBit s + n)) ≡ sumOfBits n s
+bits-finite n s h = rw (lt-leb (infinite) n h)
 
-pub made-negative : (n : ℕ) (s : Bool) → n < 2047 * 2 ^ 52 → s ≡ true → Finite (ofBits binary64 (n + 2 ^ 63)) ≡ made n s
-made-negative n s h e = ap (λ (x : ℕ). Finite (ofBits binary64 x)) (add-comm n (2 ^ 63) ∙ ap (λ (t : Bool). cond t (2 ^ 63) 0 + n) (sym e)) ∙ made-finite n s h
+pub bits-negative : (n : ℕ) (s : Bool) → n < infinite → s ≡ true → Finite (ofBits binary64 (n + 2 ^ 63)) ≡ sumOfBits n s
+bits-negative n s h e = ap (λ (x : ℕ). Finite (ofBits binary64 x)) (add-comm n (2 ^ 63) ∙ ap (λ (t : Bool). signBit t + n) (sym e)) ∙ bits-finite n s h
 
-pub made-positive : (n : ℕ) (s : Bool) → n < 2047 * 2 ^ 52 → s ≡ false → Finite (ofBits binary64 n) ≡ made n s
-made-positive n s h e = ap (λ (x : ℕ). Finite (ofBits binary64 x)) (sym (zero-add n) ∙ ap (λ (t : Bool). cond t (2 ^ 63) 0 + n) (sym e)) ∙ made-finite n s h
+pub bits-positive : (n : ℕ) (s : Bool) → n < infinite → s ≡ false → Finite (ofBits binary64 n) ≡ sumOfBits n s
+bits-positive n s h e = ap (λ (x : ℕ). Finite (ofBits binary64 x)) (sym (zero-add n) ∙ ap (λ (t : Bool). signBit t + n) (sym e)) ∙ bits-finite n s h
 
 -- ---- the answer of a kept value
 
-pub answer : (k : ℤ) → made (pattern (natAbs k)) (not (nonNeg k)) ≡ sumFor k
+pub answer : (k : ℤ) → sumOfBits (packed (natAbs k)) (not (nonNeg k)) ≡ sumFor k
 unfolding tooLarge nearestDouble
 answer k = ⊎-elim (λ h. large h) (λ h. small h) (le-or-lt limit (natAbs k))
   where
-    large : limit ≤ natAbs k → made (pattern (natAbs k)) (not (nonNeg k)) ≡ sumFor k
-    large h = sym (made-large (pattern (natAbs k)) (not (nonNeg k)) (limit-infinite (natAbs k) h)) ∙ rw (le-leb limit (natAbs k) h)
+    large : limit ≤ natAbs k → sumOfBits (packed (natAbs k)) (not (nonNeg k)) ≡ sumFor k
+    large h = sym (bits-large (packed (natAbs k)) (not (nonNeg k)) (limit-infinite (natAbs k) h)) ∙ rw (le-leb limit (natAbs k) h)
 
-    small : natAbs k < limit → made (pattern (natAbs k)) (not (nonNeg k)) ≡ sumFor k
+    small : natAbs k < limit → sumOfBits (packed (natAbs k)) (not (nonNeg k)) ≡ sumFor k
     small h =
         let f = limit-finite (natAbs k) h in
-        sym (made-finite (pattern (natAbs k)) (not (nonNeg k)) f) ∙ ap Finite (pattern-value (not (nonNeg k)) (natAbs k) f) ∙ rw (lt-leb limit (natAbs k) h)
+        sym (bits-finite (packed (natAbs k)) (not (nonNeg k)) f) ∙ ap Finite (packed-value (not (nonNeg k)) (natAbs k) f) ∙ rw (lt-leb limit (natAbs k) h)
 
-zero-made : made (pattern 0) false ≡ Finite (ofBits binary64 0)
-unfolding size
-zero-made = refl
+zero-bits : sumOfBits (packed 0) false ≡ Finite (ofBits binary64 0)
+unfolding size nearestBy
+zero-bits = refl
 
 -- a kept value of 0 gives +0
 pub answer-zero : (k : ℤ) → natAbs k ≡ 0 → not (nonNeg k) ≡ false → Finite (ofBits binary64 0) ≡ sumFor k
-answer-zero k e f = sym (ap (λ (n : ℕ). made (pattern n) (not (nonNeg k))) e ∙ ap (λ (s : Bool). made (pattern 0) s) f ∙ zero-made) ∙ answer k
+answer-zero k e f = sym (ap (λ (n : ℕ). sumOfBits (packed n) (not (nonNeg k))) e ∙ ap (λ (s : Bool). sumOfBits (packed 0) s) f ∙ zero-bits) ∙ answer k
 
 -- the sum of a kept value that is not too large is a finite float
 pub nearest-finite : (k : ℤ) → tooLarge k ≡ false → T (finite (nearestDouble k))

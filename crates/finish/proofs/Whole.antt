@@ -1,7 +1,8 @@
--- The size and the sign of the kept value, from the limbs of the raised totals.
+-- The size and the sign of the kept value, from the raised totals. The idea: a total is its raised total less 2^72, so the three totals put together are
+-- the raised ones put together less the raises put together, and that distance with its sign is the kept value, 80 digits up.
 use mathlib.Core.Path.{_≡_, refl, sym, ap, ap₂, _∙_}
 use mathlib.Core.Bool.{Bool, true, false, not}
-use Prim.Native.Nat.{ℕ, zero, suc, _+_, _-_, _*_, _/_, _^_, _<_}
+use Prim.Native.Nat.{ℕ, zero, suc, _+_, _-_, _*_, _/_, _%_, _^_, _≤_, _<_}
 use native.Mathlib.Nat.{mul-pos, mul-div-cancel, lt-irrefl, zero-mul, lt-of-lt-of-le}
 use native.Mathlib.Omega.{arith}
 use borrow.Author.Tests.{le-ltb}
@@ -16,9 +17,14 @@ use Rattle.integers.proofs.Laws.{natAbs-neg, negℤ-*ℤ, back}
 use Rattle.level.proofs.Signs.{natAbs-signed}
 use Rattle.level.specs.Double.{signed}
 use Rattle.level.specs.Level.{unit}
-use Rattle.level.specs.Carry.{totalOf}
+use Rattle.level.specs.Carry.{totalOf, InRange}
 use Rattle.level.specs.declared.Held.{Held}
-use Rattle.finish.specs.Limbs.{keptOf, Apart, Empty, Bottom, InRange, raisedCarry, raisedTotal}
+use Rattle.record.specs.declared.Record.{Record}
+use Rattle.record.specs.Sound.{soundRecord}
+use Rattle.record.specs.Section.{kept, meaning}
+use Rattle.record.proofs.Parts.{empty-total, sound-record-parts, held-range}
+use Rattle.limbs.specs.Limbs.{Distance}
+use Rattle.finish.specs.Raised.{carryRaise, carryUnit, totalRaise, raisedCarry, raisedTotal}
 
 -- ---- the kept value, 80 digits up
 
@@ -38,7 +44,8 @@ unit-suc j = let e : 40 * suc j ≡ 40 * j + 40 = omega arith in ap (λ (x : ℕ
 abbrev stacked : ℤ → ℤ → ℤ → ℤ
 stacked x y z = z +ℤ pos (2 ^ 40) *ℤ y +ℤ pos (2 ^ 80) *ℤ x
 
-kept-up : (t : ℕ) (x y z : ℤ) → (t < 1 → y ≡ pos 0) → (t < 2 → z ≡ pos 0) → keptOf t x y z *ℤ pos (2 ^ 80) ≡ stacked x y z *ℤ pos (unit t)
+kept-up : (t : ℕ) (x y z : ℤ) → (t < 1 → y ≡ pos 0) → (t < 2 → z ≡ pos 0)
+    → (x *ℤ pos (unit t) +ℤ y *ℤ pos (unit (t - 1)) +ℤ z *ℤ pos (unit (t - 2))) *ℤ pos (2 ^ 80) ≡ stacked x y z *ℤ pos (unit t)
 kept-up zero x y z h k = rw (h (omega arith), k (omega arith)) (top-zero x)
 kept-up (suc zero) x y z h k = rw (k (omega arith)) (top-one x y)
 kept-up (suc (suc j)) x y z h k =
@@ -49,45 +56,42 @@ kept-up (suc (suc j)) x y z h k =
 
 -- ---- a total is its raised total less 2^72
 
-carry-is : (c : ℤ) → natAbs c < 2 ^ 22 → c ≡ raisedCarry c ⊝ 2 ^ 22
+carry-is : (c : ℤ) → natAbs c < carryRaise → c ≡ raisedCarry c ⊝ carryRaise
 carry-is = byParts _ (λ a b. simp ints (omega arith))
 
-pub carry-fits : (c : ℤ) → natAbs c < 2 ^ 22 → T (nonNeg (c +ℤ pos (2 ^ 22))) × (raisedCarry c < 2 ^ 23)
+pub carry-fits : (c : ℤ) → natAbs c < carryRaise → T (nonNeg (c +ℤ pos (carryRaise))) × (raisedCarry c < 2 ^ 23)
 carry-fits c h = (nonneg c h, small c h)
   where
-    nonneg : (c : ℤ) → natAbs c < 2 ^ 22 → T (nonNeg (c +ℤ pos (2 ^ 22)))
+    nonneg : (c : ℤ) → natAbs c < carryRaise → T (nonNeg (c +ℤ pos (carryRaise)))
     nonneg (pos n) h = tt
-    nonneg (negsuc n) h = rw (le-ltb (2 ^ 22) (suc n) (omega arith)) tt
+    nonneg (negsuc n) h = rw (le-ltb (carryRaise) (suc n) (omega arith)) tt
 
-    small : (c : ℤ) → natAbs c < 2 ^ 22 → raisedCarry c < 2 ^ 23
+    small : (c : ℤ) → natAbs c < carryRaise → raisedCarry c < 2 ^ 23
     small = byParts _ (λ a b. simp ints (omega arith))
 
 -- read off the bits of the sum
-pub carry-read : (c r : ℤ) → natAbs c < 2 ^ 22 → r ≡ toZ w64 (ofZ w64 c) +ℤ pos (2 ^ 22) → toZ w64 (ofZ w64 r) ≡ c +ℤ pos (2 ^ 22)
+pub carry-read : (c r : ℤ) → natAbs c < carryRaise → r ≡ toZ w64 (ofZ w64 c) +ℤ pos (carryRaise) → toZ w64 (ofZ w64 r) ≡ c +ℤ pos (carryRaise)
 carry-read c r h e =
-    let f : r ≡ c +ℤ pos (2 ^ 22) = e ∙ ap (λ (z : ℤ). z +ℤ pos (2 ^ 22)) (back c (omega arith)) in
-    ap (λ (z : ℤ). toZ w64 (ofZ w64 z)) f ∙ back (c +ℤ pos (2 ^ 22)) (lt-of-lt-of-le (carry-fits c h .1) (lit≤ tt))
+    let f : r ≡ c +ℤ pos (carryRaise) = e ∙ ap (λ (z : ℤ). z +ℤ pos (carryRaise)) (back c (omega arith)) in
+    ap (λ (z : ℤ). toZ w64 (ofZ w64 z)) f ∙ back (c +ℤ pos (carryRaise)) (lt-of-lt-of-le (carry-fits c h .1) (lit≤ tt))
 
-pub carry-back : (c : ℤ) → natAbs c < 2 ^ 22 → toZ w64 (ofZ w64 c) ≡ c
+pub carry-back : (c : ℤ) → natAbs c < carryRaise → toZ w64 (ofZ w64 c) ≡ c
 carry-back c h = back c (omega arith)
 
-total-of : (n s : ℕ) → (n ⊝ 2 ^ 22) *ℤ pos (2 ^ 50) +ℤ pos s ≡ (s + 2 ^ 50 * n) ⊝ 2 ^ 72
+total-of : (n s : ℕ) → (n ⊝ carryRaise) *ℤ pos (carryUnit) +ℤ pos s ≡ (s + carryUnit * n) ⊝ totalRaise
 total-of n s = simp ints (omega arith)
 
-total-is : (h : Held) → InRange h → totalOf h ≡ raisedTotal h ⊝ 2 ^ 72
-total-is h r = ap (λ (c : ℤ). c *ℤ pos (2 ^ 50) +ℤ pos (h .residue)) (carry-is (h .carry) (r .carry)) ∙ total-of (raisedCarry (h .carry)) (h .residue)
-
-empty-total : (h : Held) → Empty h → totalOf h ≡ pos 0
-empty-total h e = ap₂ (λ (s : ℕ) (c : ℤ). c *ℤ pos (2 ^ 50) +ℤ pos s) (e .0) (e .1)
+total-is : (h : Held) → InRange h → totalOf h ≡ raisedTotal h ⊝ totalRaise
+total-is h r = ap (λ (c : ℤ). c *ℤ pos (carryUnit) +ℤ pos (h .residue)) (carry-is (h .carry) (r .1)) ∙ total-of (raisedCarry (h .carry)) (h .residue)
 
 stacked-is : (a b x y z : ℕ) → (z ⊝ b) +ℤ pos a *ℤ (y ⊝ b) +ℤ pos (a * a) *ℤ (x ⊝ b) ≡ (z + a * y + a * a * x) ⊝ (b + a * b + a * a * b)
 stacked-is a b x y z = simp ints (omega arith)
 
 -- ---- the distance with its sign
 
-apart-is : (s : Bool) (v p q : ℕ) → Apart s v p q → p ⊝ q ≡ signed s v
-apart-is false v p q e = simp ints (omega arith)
-apart-is true v p q e = simp ints (omega arith)
+distance-is : (s : Bool) (v p q : ℕ) → Distance s v p q → p ⊝ q ≡ signed s v
+distance-is false v p q e = simp ints (omega arith)
+distance-is true v p q e = simp ints (omega arith)
 
 scaled-size : (k : ℤ) (c : ℕ) → natAbs (k *ℤ pos c) ≡ natAbs k * c
 scaled-size (pos n) c = refl
@@ -104,23 +108,28 @@ pub signed-mul : (s : Bool) (v u : ℕ) → signed s v *ℤ pos u ≡ signed s (
 signed-mul false v u = refl
 signed-mul true v u = negℤ-*ℤ (pos v) (pos u)
 
-apart-some : (s : Bool) (v p q : ℕ) → Apart s v p q → s ≡ true → 0 < v
-apart-some true v p q e h = e .1
-apart-some false v p q e h = let z : _≡_ {A = ℕ} 0 1 = cc in absurd (lt-irrefl 0 (omega arith))
+distance-some : (s : Bool) (v p q : ℕ) → Distance s v p q → s ≡ true → 0 < v
+distance-some true v p q e h = e .1
+distance-some false v p q e h = let z : _≡_ {A = ℕ} 0 1 = cc in absurd (lt-irrefl 0 (omega arith))
 
--- P and Q are the raised totals and what they were raised by, put together, and v is their distance
-pub kept-size : (t : ℕ) (x y z : Held) (v P Q : ℕ) (s : Bool) → InRange x → InRange y → InRange z → Bottom t y z
-    → P ≡ raisedTotal z + 2 ^ 40 * raisedTotal y + 2 ^ 80 * raisedTotal x → Q ≡ 2 ^ 72 + 2 ^ 40 * 2 ^ 72 + 2 ^ 80 * 2 ^ 72 → Apart s v P Q
-    → (natAbs (keptOf t (totalOf x) (totalOf y) (totalOf z)) * 2 ^ 80 ≡ v * 2 ^ (40 * t)) × (not (nonNeg (keptOf t (totalOf x) (totalOf y) (totalOf z))) ≡ s)
-kept-size t x y z v P Q s hx hy hz b p q a =
-    let k = keptOf t (totalOf x) (totalOf y) (totalOf z) in
+-- the size and the sign of a sound record's kept value: P holds the raised totals, Q what they were raised by, and v is their distance
+pub kept-size : (r : Record) (v P Q : ℕ) (s : Bool) → r .count < 2 ^ 32 → T (soundRecord r)
+    → P ≡ raisedTotal (r .low) + 2 ^ 40 * raisedTotal (r .middle) + 2 ^ 80 * raisedTotal (r .high) → Q ≡ totalRaise + 2 ^ 40 * totalRaise + 2 ^ 80 * totalRaise → Distance s v P Q
+    → (natAbs (kept (meaning r)) * 2 ^ 80 ≡ v * 2 ^ (40 * r .top)) × (not (nonNeg (kept (meaning r))) ≡ s)
+unfolding kept
+kept-size r v P Q s l h p q d =
+    let g = sound-record-parts r h in
+    let x = r .high in
+    let y = r .middle in
+    let z = r .low in
     let whole : stacked (totalOf x) (totalOf y) (totalOf z) ≡ signed s v =
-    rw (total-is x hx, total-is y hy, total-is z hz) (stacked-is (2 ^ 40) (2 ^ 72) (raisedTotal x) (raisedTotal y) (raisedTotal z)
-    ∙ ap₂ _⊝_ (sym p) (sym q) ∙ apart-is s v P Q a) in
-    let up : k *ℤ pos (2 ^ 80) ≡ signed s (v * unit t) =
-    kept-up t (totalOf x) (totalOf y) (totalOf z) (λ l. empty-total y (b .one l)) (λ l. empty-total z (b .two l)) ∙ ap (λ (m : ℤ). m *ℤ pos (unit t)) whole ∙ signed-mul s v (unit t) in (
-      sym (scaled-size k (2 ^ 80)) ∙ ap natAbs up ∙ natAbs-signed s (v * unit t),
-      sign-is k s (2 ^ 80) (v * unit t) (pow-pos 80) (λ e. mul-pos (apart-some s v P Q a e) (pow-pos (40 * t))) up,
+    rw (total-is x (held-range (r .count) x (g .high) l), total-is y (held-range (r .count) y (g .middle) l), total-is z (held-range (r .count) z (g .low) l))
+    (stacked-is (2 ^ 40) totalRaise (raisedTotal x) (raisedTotal y) (raisedTotal z) ∙ ap₂ _⊝_ (sym p) (sym q) ∙ distance-is s v P Q d) in
+    let up : kept (meaning r) *ℤ pos (2 ^ 80) ≡ signed s (v * unit (r .top)) =
+    kept-up (r .top) (totalOf x) (totalOf y) (totalOf z) (λ o. empty-total y (g .second o)) (λ o. empty-total z (g .third o))
+    ∙ ap (λ (m : ℤ). m *ℤ pos (unit (r .top))) whole ∙ signed-mul s v (unit (r .top)) in (
+      sym (scaled-size (kept (meaning r)) (2 ^ 80)) ∙ ap natAbs up ∙ natAbs-signed s (v * unit (r .top)),
+      sign-is (kept (meaning r)) s (2 ^ 80) (v * unit (r .top)) (pow-pos 80) (λ e. mul-pos (distance-some s v P Q d e) (pow-pos (40 * r .top))) up,
     )
 
 -- ---- the limbs in units
@@ -128,14 +137,25 @@ kept-size t x y z v P Q s hx hy hz b p q a =
 pub units-exact : (k v u : ℕ) → k * 2 ^ 80 ≡ v * u → v * u / 2 ^ 80 ≡ k
 units-exact k v u e = ap (λ (x : ℕ). x / 2 ^ 80) (sym e) ∙ mul-div-cancel k (pow-pos 80)
 
-pub wide-pos : (a b c d : ℕ) → (a + b + c + d ≡ 0 → ⊥) → 0 < a + 2 ^ 40 * b + 2 ^ 80 * c + 2 ^ 120 * d
-wide-pos a b c d h = omega arith
+-- ---- three levels put together
 
-pub wide-zero : (a b c d : ℕ) → a + b + c + d ≡ 0 → a + 2 ^ 40 * b + 2 ^ 80 * c + 2 ^ 120 * d ≡ 0
-wide-zero a b c d h = omega arith
+pub high-lt : (s r : ℕ) → s < carryUnit → r < 2 ^ 23 → s / 2 ^ 40 + r * 1024 < 2 ^ 34
+high-lt s r h k = omega arith
 
--- no limb set: the kept value is 0, and not a negative one
-pub no-sign : (v : ℕ) (s : Bool) (p q : ℕ) → v ≡ 0 → Apart s v p q → s ≡ false
+pub high-same : (s r : ℕ) → s % 2 ^ 40 + 2 ^ 40 * (s / 2 ^ 40 + r * 1024) ≡ s + carryUnit * r
+high-same s r = omega arith
+
+pub stacked-same : (w k l m h i j x y z : ℕ) → k + 2 ^ 40 * h ≡ x → l + 2 ^ 40 * i ≡ y → m + 2 ^ 40 * j ≡ z
+    → w ≡ m + 2 ^ 40 * (j + l) + 2 ^ 80 * (i + k) + 2 ^ 120 * h → w ≡ z + 2 ^ 40 * y + 2 ^ 80 * x
+stacked-same w k l m h i j x y z a b c e = omega arith
+
+pub last-lt : (r h : ℕ) → r ≤ h + 2 ^ 23 → h < 2 ^ 34 → r < 2 ^ 40
+last-lt r h k l = omega arith
+
+-- ---- a distance of 0
+
+-- the kept value is 0 then, and not a negative one
+pub no-sign : (v : ℕ) (s : Bool) (p q : ℕ) → v ≡ 0 → Distance s v p q → s ≡ false
 no-sign v false p q e h = refl
 no-sign v true p q e h = absurd (lt-irrefl 0 (omega arith))
 

@@ -1,4 +1,4 @@
--- The bench book's figures B8 to B12 and more, from the definitions: the rows of a section, and what finishing gives. One list each, one claim.
+-- Sums, mill figures and lines beside the bench book's, from the definitions: the rows of a section, and what finishing gives. One list each, one claim.
 use Prim.Native.Nat.{ℕ, _-_, _*_, _^_}
 use mathlib.Core.Path.{_≡_, refl}
 use mathlib.Core.Bool.{true, false}
@@ -24,39 +24,21 @@ use Rattle.finish.specs.declared.FinishedLine.{FinishedLine}
 section : List ℕ → Section
 section bs = sectionAt 1 (length bs) (topOf bs) (total bs)
 
+-- the sum of the section of these rows
 sumOfRows : List ℕ → Outcome Float
 sumOfRows bs = sumOf (some (section bs))
 
+-- the mill figure of the section of this row
 figureOfRow : ℕ → Outcome ℤ
 figureOfRow b = figureOf (some (section (b ∷ [])))
 
--- B8; B9 in each order; B10, with 1 and with 2^-35; B11, one row and two
-benchRows : List (List ℕ)
-benchRows =
-    (0 ∷ 0x8000000000000000 ∷ [])
-    ∷ (0x3CB0000000000000 ∷ 0x3FEFFFFFFFFFFFFF ∷ 0x3CB0000000000000 ∷ [])
-    ∷ (0x3FEFFFFFFFFFFFFF ∷ 0x3CB0000000000000 ∷ 0x3CB0000000000000 ∷ [])
-    ∷ (0x3CB0000000000000 ∷ 0x3CB0000000000000 ∷ 0x3FEFFFFFFFFFFFFF ∷ [])
-    ∷ (0x43B0000000000000 ∷ 0x3FF0000000000000 ∷ 0xC3B0000000000000 ∷ [])
-    ∷ (0x43B0000000000000 ∷ 0x3DC0000000000000 ∷ 0xC3B0000000000000 ∷ [])
-    ∷ (0x7FEFFFFFFFFFFFFF ∷ [])
-    ∷ (0x7FEFFFFFFFFFFFFF ∷ 0x7FEFFFFFFFFFFFFF ∷ [])
-    ∷ []
-
+-- the sum with these bits
 double : ℕ → Outcome Float
 double b = accepted (ofBits binary64 b)
 
-benchSums : List (Outcome Float)
-benchSums =
-    double 0
-    ∷ double 0x3FF0000000000002 ∷ double 0x3FF0000000000002 ∷ double 0x3FF0000000000002
-    ∷ double 0x3FF0000000000000 ∷ double 0
-    ∷ double 0x7FEFFFFFFFFFFFFF ∷ refused 14
-    ∷ []
-
 -- subnormals; a tie down, up and just passed, on either side of 0; the bound of 14 and one unit of the lowest level below it, on either side
-otherRows : List (List ℕ)
-otherRows =
+rows : List (List ℕ)
+rows =
     (1 ∷ 2 ∷ []) ∷ (0x000FFFFFFFFFFFFF ∷ 1 ∷ []) ∷ (0x8000000000000001 ∷ 0x8000000000000002 ∷ [])
     ∷ (0x3FF0000000000000 ∷ 0x3CA0000000000000 ∷ [])
     ∷ (0x3FF0000000000001 ∷ 0x3CA0000000000000 ∷ [])
@@ -67,8 +49,9 @@ otherRows =
     ∷ (0xFFEFFFFFFFFFFFFF ∷ 0xFC90000000000000 ∷ []) ∷ (0xFFEFFFFFFFFFFFFF ∷ 0xFC8FFFFFFFFFFE00 ∷ [])
     ∷ []
 
-otherSums : List (Outcome Float)
-otherSums =
+-- their sums
+sums : List (Outcome Float)
+sums =
     double 3 ∷ double 0x0010000000000000 ∷ double 0x8000000000000003
     ∷ double 0x3FF0000000000000 ∷ double 0x3FF0000000000002 ∷ double 0x3FF0000000000001
     ∷ double 0xBFF0000000000000 ∷ double 0xBFF0000000000002
@@ -76,12 +59,11 @@ otherSums =
     ∷ refused 14 ∷ double 0xFFEFFFFFFFFFFFFF
     ∷ []
 
--- B12: 0.125, -0.125 and 21474836; 0.375 and -0.375; 1.5; the doubles on either side of 0.005, of -0.005, of 21474836.475 and of its negative;
+-- 0.375 and -0.375; 1.5; the doubles on either side of 0.005, of -0.005, of 21474836.475 and of its negative;
 -- those nearest to 21474836.47 and its negative; 21474836.5 and its negative; the smallest in size
 figureRows : List ℕ
 figureRows =
-    0x3FC0000000000000 ∷ 0xBFC0000000000000 ∷ 0x41747AE140000000
-    ∷ 0x3FD8000000000000 ∷ 0xBFD8000000000000 ∷ 0x3FF8000000000000
+    0x3FD8000000000000 ∷ 0xBFD8000000000000 ∷ 0x3FF8000000000000
     ∷ 0x3F747AE147AE147A ∷ 0x3F747AE147AE147B ∷ 0xBF747AE147AE147A ∷ 0xBF747AE147AE147B
     ∷ 0x41747AE147999999 ∷ 0x41747AE14799999A ∷ 0xC1747AE147999999 ∷ 0xC1747AE14799999A
     ∷ 0x41747AE147851EB8 ∷ 0xC1747AE147851EB8
@@ -89,16 +71,18 @@ figureRows =
     ∷ 1 ∷ 0x8000000000000001
     ∷ []
 
+-- a figure that is not negative
 plus : ℕ → Outcome ℤ
 plus n = accepted (pos n)
 
+-- a negative one
 minus : ℕ → Outcome ℤ
 minus n = accepted (negℤ (pos n))
 
+-- their figures
 figures : List (Outcome ℤ)
 figures =
-    plus 13 ∷ minus 12 ∷ plus 2147483600
-    ∷ plus 38 ∷ minus 37 ∷ plus 150
+    plus 38 ∷ minus 37 ∷ plus 150
     ∷ plus 0 ∷ plus 1 ∷ plus 0 ∷ minus 1
     ∷ plus 2147483647 ∷ refused 15 ∷ minus 2147483647 ∷ refused 15
     ∷ plus 2147483647 ∷ minus 2147483647
@@ -106,9 +90,10 @@ figures =
     ∷ plus 0 ∷ plus 0
     ∷ []
 
-cases : (map sumOfRows benchRows ≡ benchSums) × (map sumOfRows otherRows ≡ otherSums) × (map figureOfRow figureRows ≡ figures)
-unfolding section sumOfRows figureOfRow benchRows benchSums otherRows otherSums figureRows figures double plus minus top contribution topOf total kept nearestDouble tooLarge millFigure beyond round ofBits
-cases = (refl, refl, refl)
+-- the one claim
+cases : (map sumOfRows rows ≡ sums) × (map figureOfRow figureRows ≡ figures)
+unfolding section sumOfRows figureOfRow rows sums figureRows figures double plus minus top contribution topOf total kept nearestDouble tooLarge millFigure beyond round ofBits
+cases = (refl, refl)
 
 -- at the bound of 14, and one unit of 2^-1074 below it
 bound : (map tooLarge (pos limit ∷ pos (limit - 1) ∷ negℤ (pos limit) ∷ negℤ (pos (limit - 1)) ∷ []) ≡ true ∷ false ∷ true ∷ false ∷ [])
@@ -121,9 +106,11 @@ bound = (refl, refl)
 table : List ℕ
 table = sectionBytes (record { key = 7; count = 1; top = 26; high = pos (3 * 2 ^ 33); middle = pos 0; low = pos 0 } ∷ [])
 
+-- what finishing gives there
 lines : List (Outcome FinishedLine)
 lines = lineOutcome table 1 7 ∷ lineOutcome table 1 8 ∷ lineOutcome table 2 7 ∷ lineOutcome [] 0 5 ∷ lineOutcome [] 1 5 ∷ []
 
+-- and what document 01 says
 lines-right : lines ≡ accepted (record { key = 7; count = 1; sum = ofBits binary64 0x3FF8000000000000; figure = pos 150 }) ∷ refused 13 ∷ refused 7 ∷ refused 13 ∷ refused 7 ∷ []
 unfolding table lines find kept nearestDouble tooLarge millFigure beyond round ofBits sound soundRecords soundRecord soundHeld isZero rising cells image decode encode bytes numberAt number
 lines-right = refl

@@ -1,19 +1,21 @@
 -- The mill figure of a sum.
-use Prim.Native.Nat.{_+_, _*_, _^_, _≤_}
+use Prim.Native.Nat.{ℕ, _*_, _^_, _≤_}
 use mathlib.Core.Path.{_≡_}
-use mathlib.Core.Bool.{Bool}
+use mathlib.Core.Bool.{Bool, not}
 use lib.Dec.{ltb}
-use lib.IntN.{ℤ, pos, natAbs, _+ℤ_, _-ℤ_, _*ℤ_}
-use lib.Signed.{shrZ, _≤ℤ_}
+use lib.IntN.{ℤ, pos, natAbs, _-ℤ_, _*ℤ_}
+use lib.Signed.{_≤ℤ_}
 use lib.Ieee.{Float, nan, inf, fin, up, down}
 use Rattle.level.specs.Double.{signed}
+use Rattle.limbs.specs.Nearest.{nearestBy}
 
--- floor (100 x + 1/2): the whole number nearest to 100 x, an exact half going up. `fin s m e` is m × up e / down e with the sign s, and `shrZ`
--- rounds down; no figure is asked of a NaN or an infinity.
+-- 100 x to the nearest whole number, an exact half going up: in size, where x is not negative. `fin s m e` is m × up e / down e with the sign s;
+-- no figure is asked of a NaN or an infinity.
 unfoldable pub millFigure : Float → ℤ
+unfolding nearestBy
 millFigure nan = pos 0
 millFigure (inf s) = pos 0
-millFigure (fin s m e) = shrZ (signed s (m * up e * 200) +ℤ pos (down e)) (down e + down e)
+millFigure (fin s m e) = signed s (nearestBy (λ (q : ℕ). not s) (m * up e * 100) (down e))
 
 -- document 01's condition 15: a figure beyond 2,147,483,647 in size
 unfoldable pub beyond : ℤ → Bool

@@ -3,6 +3,6 @@ pub mod Sum
 pub mod Figure
 pub mod Finish
 pub mod Answer
-pub mod Limbs
+pub mod Raised
 pub mod Steps
 pub mod Cases

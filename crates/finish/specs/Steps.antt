@@ -1,16 +1,17 @@
 -- What the steps from a table to an answer promise each other.
-use Prim.Native.Nat.{ℕ}
+use Prim.Native.Nat.{ℕ, _+_}
 use mathlib.Core.Path.{_≡_}
-use mathlib.Core.Bool.{true, false, cond}
+use mathlib.Core.Bool.{Bool, true, false, cond}
 use mathlib.Core.List.{List}
 use mathlib.Core.Option.{none, some}
-use lib.Dec.{T}
+use lib.Dec.{T, leb}
 use lib.IntN.{ℤ}
-use lib.Ieee.{Float}
+use lib.Ieee.{Float, binary64, ofBits}
 use lib.Ieee.Scale.{finite}
 use Rattle.refusal.specs.Outcome.{Outcome, accepted, refused}
 use Rattle.record.specs.Sound.{sound, soundRecord}
 use Rattle.record.specs.Section.{meaning, sections, find}
+use Rattle.limbs.specs.Packed.{infinite, signBit}
 use Rattle.finish.specs.Sum.{nearestDouble, tooLarge}
 use Rattle.finish.specs.Figure.{millFigure, beyond}
 use Rattle.finish.specs.declared.SectionSum.{SectionSum}
@@ -28,6 +29,10 @@ LookedUp lookups.Unsound s g k = sound s g ≡ false
 -- the answer for a kept value
 abbrev pub sumFor : ℤ → SectionSum
 sumFor k = cond (tooLarge k) TooLarge (Finite (nearestDouble k))
+
+-- what a sign and the other 63 bits stand for: from the exponent field 2047 on the sum is too large
+abbrev pub sumOfBits : ℕ → Bool → SectionSum
+sumOfBits b s = cond (leb infinite b) TooLarge (Finite (ofBits binary64 (signBit s + b)))
 
 -- a sum that is no infinity and no NaN
 abbrev pub FiniteSum : SectionSum → Type 0

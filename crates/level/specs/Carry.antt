@@ -1,6 +1,6 @@
 -- How a level's total is kept: T = carry × 2^50 + residue, with the residue from 0 to 2^50 - 1.
-use Prim.Native.Nat.{ℕ, _-_, _%_, _^_}
-use lib.IntN.{ℤ, pos, negsuc, _+ℤ_, _*ℤ_}
+use Prim.Native.Nat.{ℕ, _-_, _%_, _^_, _<_}
+use lib.IntN.{ℤ, pos, negsuc, natAbs, _+ℤ_, _*ℤ_}
 use lib.Signed.{shrZ}
 use Rattle.level.specs.declared.Held.{Held}
 
@@ -20,3 +20,7 @@ heldOf z = record { residue = residueOf z; carry = carryOf z }
 -- the total that is kept
 abbrev pub totalOf : Held → ℤ
 totalOf h = h .carry *ℤ pos (2 ^ 50) +ℤ pos (h .residue)
+
+-- a residue, and the carry of a total of at most 2^71 in size
+abbrev pub InRange : Held → Type 0
+InRange h = (h .residue < 2 ^ 50) × (natAbs (h .carry) < 2 ^ 22)

@@ -9,13 +9,16 @@ use lib.IntN.{ℤ, pos, natAbs, _+ℤ_, _*ℤ_}
 use Rattle.integers.proofs.Diff.{ints, byParts}
 use Rattle.integers.proofs.Laws.{size-zero}
 use Rattle.level.specs.declared.Held.{Held}
-use Rattle.level.specs.Carry.{totalOf}
+use Rattle.level.specs.Carry.{totalOf, InRange}
 use Rattle.record.specs.declared.Record.{Record}
 use Rattle.record.specs.Sound.{soundHeld, soundRecord, isZero}
 
 -- a level that holds 0
 abbrev pub Empty : Held → Type 0
 Empty h = (h .residue ≡ 0) × (h .carry ≡ pos 0)
+
+pub empty-total : (h : Held) → Empty h → totalOf h ≡ pos 0
+empty-total h e = rw (e .0, e .1)
 
 pub record SoundParts (r : Record) : Type 0 where
   pub count : 1 ≤ r .count
@@ -84,3 +87,6 @@ module _ (n : ℕ) (h : Held) (t : T (soundHeld n h)) where
 
   pub carry-bound : n < 2 ^ 32 → natAbs (h .carry) < 2 ^ 22
   carry-bound l = omega (arith, residue-bound, total-bound, carry-small (h .residue) (h .carry))
+
+  pub held-range : n < 2 ^ 32 → InRange h
+  held-range l = (residue-bound, carry-bound l)

@@ -6,7 +6,7 @@ use native.Mathlib.Nat.{mod-eq-of-lt, pow-suc}
 use native.Mathlib.Omega.{arith}
 use native.Mathlib.Numerals.{add-one}
 use mathlib.Core.Logic.{⊎-elim}
-use Rattle.finish.proofs.Pattern.{le-or-lt}
+use Rattle.limbs.proofs.Nearest.{le-or-lt}
 use borrow.Author.Tests.{lt-ltb, le-ltb, ltb-false}
 use mathlib.Core.Bool.{Bool, true, false, cond}
 use lib.Dec.{ltb}

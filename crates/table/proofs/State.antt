@@ -5,13 +5,10 @@ use mathlib.Core.List.{List, [], _∷_, _++_, map}
 use native.Mathlib.Omega.{arith}
 use lib.Dec.{T, ltb, ltb→lt}
 use lib.Ieee.Fits.{and-l, and-r}
-use lib.IntN.{pos}
 use lib.ListN.{length, take, drop, length-map}
 use Rattle.codec.specs.Cells.{cells, image}
 use Rattle.codec.proofs.Laws.{AreBytes, drop-bytes, take-bytes, numberAt-lt}
 use Rattle.codec.proofs.Cells.{length-cells, cells-take, image-cells}
-use Rattle.level.specs.declared.Held.{Held}
-use Rattle.level.specs.Carry.{totalOf}
 use Rattle.level.proofs.Carry.{held-total}
 use Rattle.record.specs.declared.Record.{Record}
 use Rattle.record.specs.Layout.{decode, encode, records, capacity}
@@ -19,7 +16,7 @@ use Rattle.record.specs.Keys.{keys, rising}
 use Rattle.record.specs.Sound.{soundRecord, soundRecords, sound}
 use Rattle.record.specs.Section.{Section, meaning, recordOf, sections, sectionBytes}
 use Rattle.record.proofs.Laws.{encode-decode}
-use Rattle.record.proofs.Parts.{Empty, sound-record-parts, residue-bound, total-bound}
+use Rattle.record.proofs.Parts.{empty-total, sound-record-parts, residue-bound, total-bound}
 use Rattle.record.proofs.Sound.{sound-parts, sound-made}
 use Rattle.lists.proofs.All.{All}
 use Rattle.table.proofs.Lookup.{Rising, keysIn}
@@ -27,9 +24,6 @@ use Rattle.table.proofs.Proper.{Proper}
 use Rattle.table.proofs.Bytes.{Fits, rising-records, sound-records}
 
 -- ---- one record
-empty-total : (h : Held) → Empty h → totalOf h ≡ pos 0
-empty-total h e = rw (e .0, e .1)
-
 pub section-proper : (r : Record) → r .key < 2 ^ 32 → T (soundRecord r) → Proper (meaning r)
 section-proper r k t =
     let p = sound-record-parts r t in

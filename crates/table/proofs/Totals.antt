@@ -1,4 +1,4 @@
--- What a sound record holds at a level, and the range of its residue and carry.
+-- What a sound record holds at a level.
 use Prim.Native.Nat.{ℕ, _+_, _-_, _^_, _≤_, _<_}
 use mathlib.Core.Path.{_≡_, refl, sym, ap, ap₂, _∙_}
 use mathlib.Core.Bool.{Bool, true, false, cond}
@@ -7,23 +7,16 @@ use native.Mathlib.Nat.{sub-zero}
 use native.Mathlib.Decide.{decLe}
 use native.Mathlib.Omega.{arith}
 use borrow.Author.Tests.{eq-eqb, ne-eqb, le-leb, lt-leb}
-use lib.IntN.{ℤ, pos, natAbs, _+ℤ_}
+use lib.IntN.{ℤ, pos, _+ℤ_}
 use Rattle.level.specs.declared.Held.{Held}
 use Rattle.level.specs.Level.{below}
-use Rattle.level.specs.Carry.{heldOf, totalOf}
+use Rattle.level.specs.Carry.{heldOf, totalOf, InRange}
 use Rattle.record.specs.declared.Record.{Record}
-use Rattle.record.specs.Sound.{soundHeld, soundRecord}
+use Rattle.record.specs.Sound.{soundRecord}
 use Rattle.record.specs.Section.{Section, meaning}
-use Rattle.record.proofs.Parts.{Empty, SoundParts, sound-record-parts, residue-bound, carry-bound}
+use Rattle.record.proofs.Parts.{Empty, SoundParts, sound-record-parts, held-range}
 use Rattle.table.specs.Combine.{levelOf}
 use Rattle.table.specs.Steps.{heldIn, bothAt}
-
--- ---- the range of a level
-abbrev pub InRange : Held → Type 0
-InRange h = (h .residue < 2 ^ 50) × (natAbs (h .carry) < 2 ^ 22)
-
-pub held-range : (n : ℕ) (h : Held) → n < 2 ^ 32 → T (soundHeld n h) → InRange h
-held-range n h k t = (residue-bound n h t, carry-bound n h t k)
 
 -- ---- what a record holds at level j
 pub held-level : (r : Record) (j : ℕ) → totalOf (heldIn r j) ≡ levelOf (meaning r) j
@@ -41,7 +34,7 @@ pub held-in-range : (r : Record) (j : ℕ) → r .count < 2 ^ 32 → T (soundRec
 held-in-range r j h t =
     let p = sound-record-parts r t in
     by (eqb j (r .top)) (eqb (j + 1) (r .top)) (eqb (j + 2) (r .top))
-    (held-range (r .count) (r .high) h (p .high)) (held-range (r .count) (r .middle) h (p .middle)) (held-range (r .count) (r .low) h (p .low))
+    (held-range (r .count) (r .high) (p .high) h) (held-range (r .count) (r .middle) (p .middle) h) (held-range (r .count) (r .low) (p .low) h)
   where
     by : (a b c : Bool) → InRange (r .high) → InRange (r .middle) → InRange (r .low) → InRange (cond a (r .high) (cond b (r .middle) (cond c (r .low) (heldOf (pos 0)))))
     by true b c x y z = x

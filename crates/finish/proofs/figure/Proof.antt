@@ -1,7 +1,8 @@
-use Rattle.finish.proofs.Outcomes.{found-sound, when-found, when-missing, when-unsound}
+use Rattle.finish.proofs.Outcomes.{found-sound, finished}
 use mathlib.Core.Path.{_∙_}
 use denote.Ref.{now}
 use Rattle.finish.specs.Finish.{figureOf}
+use Rattle.finish.specs.declared.Lookup.the-variants.{Found, Missing, Unsound}
 use borrow.Author.Needs.{needs}
 use Rattle.finish.proofs.figure.Statement.{statement}
 use Rattle.finish.proofs.figure.Tie as tie
@@ -29,19 +30,19 @@ returns c =
     let l = c .before .before .before .before .look-up in
     let s = c .before .before .before .before .before .before .args in
     let r = c .before .before .r .given in
-    c .record-figure .ensures ∙ when-found (l .result) (now (s .table)) (s .g) (s .key) (l .ensures) figureOf (r .0 .0) (r .1)
+    c .record-figure .ensures ∙ finished (l .result) (now (s .table)) (s .g) (s .key) (l .ensures) figureOf (Found (r .0 .0)) (r .1)
 
 returns-2 : tie.Need-returns-2
 returns-2 c =
     let l = c .before .before .look-up in
     let s = c .before .before .before .before .args in
-    when-missing (l .result) (now (s .table)) (s .g) (s .key) (l .ensures) figureOf (c .enum-told .given .1)
+    finished (l .result) (now (s .table)) (s .g) (s .key) (l .ensures) figureOf Missing (c .enum-told .given .1)
 
 returns-3 : tie.Need-returns-3
 returns-3 c =
     let l = c .before .before .look-up in
     let s = c .before .before .before .before .args in
-    when-unsound (l .result) (now (s .table)) (s .g) (s .key) (l .ensures) figureOf (c .enum-told2 .given .1)
+    finished (l .result) (now (s .table)) (s .g) (s .key) (l .ensures) figureOf Unsound (c .enum-told2 .given .1)
 
 pub figure-spec : {M : Type 1} → statement M
 figure-spec =

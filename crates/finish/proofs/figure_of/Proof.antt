@@ -1,6 +1,6 @@
 use mathlib.Core.Path.{_≡_, sym, ap, ap₂, _∙_, subst}
-use mathlib.Core.Bool.{Bool, cond}
-use Prim.Native.Nat.{ℕ, _+_, _-_}
+use mathlib.Core.Bool.{Bool, not, cond}
+use Prim.Native.Nat.{ℕ, _+_, _-_, _*_, _^_}
 use native.Mathlib.Nat.{lt-of-lt-of-le, lt-of-le-of-lt, le-of-eq}
 use lib.Dec.{T}
 use lib.IntN.{ℤ}
@@ -8,7 +8,7 @@ use lib.Ieee.{binary64, toBits, fits}
 use Rattle.refusal.specs.Outcome.{accepted, refused}
 use Rattle.level.specs.Double.{field, significand, negative, signed}
 use Rattle.finish.specs.Figure.{millFigure, beyond}
-use Rattle.finish.specs.Limbs.{hundredths}
+use Rattle.limbs.specs.Nearest.{nearestBy}
 use Rattle.finish.proofs.Fraction.{number, near-figure, far-figure}
 use Rattle.level.proofs.Double.{significand-lt}
 use borrow.Author.Needs.{needs}
@@ -55,9 +55,10 @@ returns-2 c =
     let f = c .before .before .before .before .before .before .exponent-field in
     let s = c .before .before .before .before .before .before .before in
     let b = toBits binary64 (s .args .sum) in
-    let size : n .result ≡ hundredths (significand b) (p .result) (negative b) = n .ensures ∙ ap₂ (λ (m : ℕ) (t : Bool). hundredths m (p .result) t) (d .ensures) (g .ensures) in
+    let size : n .result ≡ nearestBy (λ (q : ℕ). not (negative b)) (significand b * 100) (2 ^ p .result) =
+    n .ensures ∙ ap₂ (λ (m : ℕ) (t : Bool). nearestBy (λ (q : ℕ). not t) (m * 100) (2 ^ p .result)) (d .ensures) (g .ensures) in
     let places : p .result + (field b - 1) ≡ 1074 = ap (λ (x : ℕ). p .result + (x - 1)) (sym (f .ensures)) ∙ p .ensures .0 in
-    let e : signed (g .result) (n .result) ≡ millFigure (s .args .sum) = ap₂ (λ (t : Bool) (m : ℕ). signed t m) (g .ensures) size ∙ near-figure (s .args .sum) (holds s) (s .pre) (p .result) places (p .ensures .1) in
+    let e : signed (g .result) (n .result) ≡ millFigure (s .args .sum) = ap₂ (λ (t : Bool) (m : ℕ). signed t m) (g .ensures) size ∙ near-figure (s .args .sum) (holds s) (s .pre) (p .result) places in
     c .figure-of-size .ensures ∙ ap (λ (z : ℤ). cond (beyond z) (refused 15) (accepted z)) e
 
 pub figure-of-spec : {M : Type 1} → statement M

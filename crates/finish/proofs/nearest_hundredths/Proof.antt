@@ -1,11 +1,26 @@
-use Rattle.finish.proofs.Hundredths.{hundredths-zero, half-fits, half-pos, hundredths-down, hundredths-up}
+use mathlib.Core.Path.{_≡_, _∙_}
+use mathlib.Core.Bool.{not}
+use Prim.Native.Nat.{ℕ, _*_, _/_, _^_, _<_, compare}
+use native.Mathlib.Nat.{lt-of-le-of-lt, le-trans, le-of-eq, mod-le}
 use native.Mathlib.Omega.{arith}
+use lib.Pow.{shr-le}
+use Rattle.limbs.specs.Nearest.{rounded}
+use Rattle.finish.proofs.Hundredths.{hundredths-zero, hundredths-round}
 use borrow.Author.Needs.{needs}
 use Rattle.finish.proofs.nearest_hundredths.Statement.{statement}
 use Rattle.finish.proofs.nearest_hundredths.Tie as tie
 
 returns : tie.Need-returns
-returns c = hundredths-zero (c .before .args .m) (c .before .args .r) (c .before .args .negative) (c .before .pre .0) (c .if1 .taken)
+returns c = hundredths-zero (λ (q : ℕ). not (c .before .args .negative)) (c .before .args .m) (c .before .args .r) (c .before .pre .0) (c .if1 .taken)
+
+mul-n : tie.Need-mul-n
+mul-n c = search needs
+
+shr-round : tie.Need-shr-round
+shr-round c = search needs
+
+last-digits-requires : tie.Need-last-digits-requires
+last-digits-requires c κs = search needs
 
 sub-power : tie.Need-sub-power
 sub-power c = search needs
@@ -13,46 +28,30 @@ sub-power c = search needs
 power-requires : tie.Need-power-requires
 power-requires c κs = search needs
 
-mul-result : tie.Need-mul-result
-mul-result c = search needs
-
-add-result : tie.Need-add-result
-add-result c = half-fits (c .before .before .before .args .m) (c .before .before .before .args .r) (c .before .power .result) (c .before .before .before .pre .0) (c .before .before .if1 .left) (c .before .power .ensures)
-
-sub-result : tie.Need-sub-result
-sub-result c = omega (arith, half-pos (c .before .before .before .args .m) (c .before .before .before .args .r) (c .before .power .result) (c .before .before .before .pre .0) (c .before .before .if1 .left) (c .before .power .ensures))
-
-shr-result : tie.Need-shr-result
-shr-result c = search needs
+round-requires : tie.Need-round-requires
+round-requires c κs =
+    let s = c .before .before .before in
+    let n = s .args .m * 100 in
+    let l : n < 2 ^ 63 = omega (arith, s .pre .0) in
+    (lt-of-le-of-lt (shr-le n (s .args .r)) l, lt-of-le-of-lt (le-trans (le-of-eq (c .before .last-digits .ensures)) (mod-le n (2 ^ s .args .r))) l)
 
 returns-2 : tie.Need-returns-2
-returns-2 c = hundredths-down (c .before .before .before .args .m) (c .before .before .before .args .r) (c .before .power .result) (c .before .before .before .pre .0) (c .before .before .if1 .left) (c .before .power .ensures) (c .before .before .before .args .negative) (c .if2 .taken)
-
-mul-result-2 : tie.Need-mul-result-2
-mul-result-2 c = search needs
-
-add-result-2 : tie.Need-add-result-2
-add-result-2 c = half-fits (c .before .before .before .args .m) (c .before .before .before .args .r) (c .before .power .result) (c .before .before .before .pre .0) (c .before .before .if1 .left) (c .before .power .ensures)
-
-shr-result-2 : tie.Need-shr-result-2
-shr-result-2 c = search needs
-
-returns-3 : tie.Need-returns-3
-returns-3 c = hundredths-up (c .before .before .before .args .m) (c .before .before .before .args .r) (c .before .power .result) (c .before .before .before .pre .0) (c .before .before .if1 .left) (c .before .power .ensures) (c .before .before .before .args .negative) (c .if2 .left)
+returns-2 c =
+    let s = c .before .before .before .before in
+    let n = s .args .m * 100 in
+    let e : c .round .result ≡ rounded (not (s .args .negative)) (n / 2 ^ s .args .r) (compare (c .before .before .last-digits .result) (c .before .power .result)) = c .round .ensures in
+    e
+    ∙ hundredths-round (λ (q : ℕ). not (s .args .negative)) (s .args .m * 100) (s .args .r) _ _ (s .pre .1) (c .before .before .last-digits .ensures) (c .before .power .ensures)
 
 pub nearest-hundredths-spec : {M : Type 1} → statement M
 nearest-hundredths-spec =
     tie.close
     (tie.spec
     returns
+    mul-n
+    shr-round
+    last-digits-requires
     sub-power
     power-requires
-    mul-result
-    add-result
-    sub-result
-    shr-result
-    returns-2
-    mul-result-2
-    add-result-2
-    shr-result-2
-    returns-3)
+    round-requires
+    returns-2)

@@ -1,5 +1,4 @@
 use mathlib.Core.Path.{sym, ap, _∙_, subst}
-use mathlib.Core.Option.{some}
 use borrow.Author.Needs.{needs}
 use Rattle.record.specs.Section.{meaning, kept}
 use Rattle.finish.specs.Answer.{sumAnswer}
@@ -17,7 +16,7 @@ figure-by-requires c κs = subst FiniteSum (sym (c .record-sum .ensures)) (finit
 returns : tie.Need-returns
 returns c =
     let m = meaning (c .before .before .args .r) in
-    c .figure-by .ensures ∙ ap figureBy (ap sumAnswer (c .before .record-sum .ensures) ∙ sum-for m) ∙ sym (figure-by (some m))
+    c .figure-by .ensures ∙ ap figureBy (ap sumAnswer (c .before .record-sum .ensures) ∙ sum-for m) ∙ sym (figure-by m)
 
 pub record-figure-spec : {M : Type 1} → statement M
 record-figure-spec = tie.close (tie.spec record-sum-requires figure-by-requires returns)

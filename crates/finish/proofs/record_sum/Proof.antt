@@ -1,18 +1,103 @@
-use Rattle.finish.proofs.Tables.{record-range}
-use Rattle.record.specs.Section.{kept}
+-- The distance of the raised totals from their raises is the size of the kept value with its sign; its bits are the sum's.
+use mathlib.Core.Path.{_≡_, sym, ap, _∙_}
+use mathlib.Core.Bool.{Bool, not}
+use Prim.Native.Nat.{ℕ, _*_, _^_, _<_}
+use native.Mathlib.Nat.{mul-le-mul-left, pos-of-ne-zero}
+use borrow.Author.Tests.{eqb-true, eqb-false}
+use lib.IntN.{ℤ, natAbs}
+use lib.Signed.{nonNeg}
+use Rattle.record.specs.Section.{kept, meaning}
+use Rattle.record.proofs.Parts.{sound-record-parts, held-range}
+use Rattle.limbs.specs.Limbs.{valueOf}
+use Rattle.limbs.specs.Packed.{packed}
+use Rattle.finish.specs.Steps.{sumOfBits}
+use Rattle.finish.proofs.Whole.{kept-size, units-exact, no-sign, no-size}
+use Rattle.finish.proofs.Sums.{answer, answer-zero}
 use borrow.Author.Needs.{needs}
 use Rattle.finish.proofs.record_sum.Statement.{statement}
 use Rattle.finish.proofs.record_sum.Tie as tie
 
-cast-nearest-double : tie.Need-cast-nearest-double
-cast-nearest-double c = search needs
+-- the row count is below 2^32
+few : (c : tie.Start) → c .args .r .count < 2 ^ 32
+few c = search needs
 
-nearest-double-requires : tie.Need-nearest-double-requires
-nearest-double-requires c κs = record-range (c .before .args .r) (c .struct-known .given .1 .0 .fits) (c .before .pre)
+-- the kept value, and what the limbs say of its size and sign
+abbrev value : tie.After-distance → ℤ
+value c = kept (meaning (c .before .before .before .args .r))
+
+sized : (c : tie.After-distance)
+    → (natAbs (value c) * 2 ^ 80 ≡ valueOf (c .distance .result .limbs) * 2 ^ (40 * c .before .before .before .args .r .top)) × (not (nonNeg (value c)) ≡ c .distance .result .negative)
+sized c =
+    let s = c .before .before .before in
+    kept-size (s .args .r) (valueOf (c .distance .result .limbs)) _ _ (c .distance .result .negative) (few s) (s .pre) (c .before .before .raised-limbs .ensures .same) (c .before .raise .ensures .same) (c .distance .ensures .1)
+
+raised-limbs-requires : tie.Need-raised-limbs-requires
+raised-limbs-requires c κs =
+    let r = c .args .r in
+    let p = sound-record-parts r (c .pre) in
+    (held-range (r .count) (r .high) (p .high) (few c), (held-range (r .count) (r .middle) (p .middle) (few c), held-range (r .count) (r .low) (p .low) (few c)))
+
+raise-requires : tie.Need-raise-requires
+raise-requires c κs = search needs
+
+distance-requires : tie.Need-distance-requires
+distance-requires c κs = search needs
+
+is-zero-requires : tie.Need-is-zero-requires
+is-zero-requires c κs = search needs
 
 returns : tie.Need-returns
-unfolding kept
-returns c = c .nearest-double .ensures
+returns c =
+    let d = c .before .before .before in
+    let v = valueOf (d .distance .result .limbs) in
+    let k = sized d in
+    let e : v ≡ 0 = eqb-true v 0 (sym (c .before .is-zero .ensures) ∙ c .if1 .taken) in
+    let n = no-sign v (d .distance .result .negative) _ _ e (d .distance .ensures .1) in
+    answer-zero (value d) (no-size (natAbs (value d)) v _ (k .0) e) (k .1 ∙ n)
+
+cast-nearest-bits : tie.Need-cast-nearest-bits
+cast-nearest-bits c = search needs
+
+mul-nearest-bits : tie.Need-mul-nearest-bits
+mul-nearest-bits c = search needs
+
+nearest-bits-requires : tie.Need-nearest-bits-requires
+nearest-bits-requires c κs =
+    let d = c .before .before .before .before in
+    let s = d .before .before .before in
+    let v = valueOf (d .distance .result .limbs) in
+    let k = sized d in (
+      d .distance .ensures .0,
+      (
+        (pos-of-ne-zero (eqb-false v 0 (sym (c .before .before .is-zero .ensures) ∙ c .before .if1 .left)), mul-le-mul-left 40 (sound-record-parts (s .args .r) (s .pre) .top)),
+        ap (λ (x : ℕ). x * 2 ^ 80) (units-exact (natAbs (value d)) v _ (k .0)) ∙ k .0,
+      ),
+    )
+
+sum-of-bits-requires : tie.Need-sum-of-bits-requires
+sum-of-bits-requires c κs = search needs
+
+returns-2 : tie.Need-returns-2
+returns-2 c =
+    let d = c .before .before .before .before .before .before in
+    let k = sized d in
+    let e : c .sum-of-bits .result ≡ sumOfBits (c .before .nearest-bits .result) (d .distance .result .negative) = c .sum-of-bits .ensures in
+    e
+    ∙ ap (λ (b : ℕ). sumOfBits b (d .distance .result .negative)) (c .before .nearest-bits .ensures ∙ ap packed (units-exact (natAbs (value d)) (valueOf (d .distance .result .limbs)) _ (k .0)))
+    ∙ ap (λ (s : Bool). sumOfBits (packed (natAbs (value d))) s) (sym (k .1))
+    ∙ answer (value d)
 
 pub record-sum-spec : {M : Type 1} → statement M
-record-sum-spec = tie.close (tie.spec cast-nearest-double nearest-double-requires returns)
+record-sum-spec =
+    tie.close
+    (tie.spec
+    raised-limbs-requires
+    raise-requires
+    distance-requires
+    is-zero-requires
+    returns
+    cast-nearest-bits
+    mul-nearest-bits
+    nearest-bits-requires
+    sum-of-bits-requires
+    returns-2)

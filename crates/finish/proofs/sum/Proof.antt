@@ -1,9 +1,10 @@
-use Rattle.finish.proofs.Outcomes.{sum-for, found-sound, when-found, when-missing, when-unsound}
+use Rattle.finish.proofs.Outcomes.{sum-for, found-sound, finished}
 use mathlib.Core.Path.{ap, _∙_}
 use denote.Ref.{now}
 use Rattle.record.specs.Section.{meaning}
 use Rattle.finish.specs.Finish.{sumOf}
 use Rattle.finish.specs.Answer.{sumAnswer}
+use Rattle.finish.specs.declared.Lookup.the-variants.{Found, Missing, Unsound}
 use borrow.Author.Needs.{needs}
 use Rattle.finish.proofs.sum.Statement.{statement}
 use Rattle.finish.proofs.sum.Tie as tie
@@ -31,19 +32,19 @@ returns c =
     let l = c .before .before .before .before .look-up in
     let s = c .before .before .before .before .before .before .args in
     let r = c .before .before .r .given in
-    ap sumAnswer (c .record-sum .ensures) ∙ sum-for (meaning (r .0 .0)) ∙ when-found (l .result) (now (s .table)) (s .g) (s .key) (l .ensures) sumOf (r .0 .0) (r .1)
+    ap sumAnswer (c .record-sum .ensures) ∙ sum-for (meaning (r .0 .0)) ∙ finished (l .result) (now (s .table)) (s .g) (s .key) (l .ensures) sumOf (Found (r .0 .0)) (r .1)
 
 returns-2 : tie.Need-returns-2
 returns-2 c =
     let l = c .before .before .look-up in
     let s = c .before .before .before .before .args in
-    when-missing (l .result) (now (s .table)) (s .g) (s .key) (l .ensures) sumOf (c .enum-told .given .1)
+    finished (l .result) (now (s .table)) (s .g) (s .key) (l .ensures) sumOf Missing (c .enum-told .given .1)
 
 returns-3 : tie.Need-returns-3
 returns-3 c =
     let l = c .before .before .look-up in
     let s = c .before .before .before .before .args in
-    when-unsound (l .result) (now (s .table)) (s .g) (s .key) (l .ensures) sumOf (c .enum-told2 .given .1)
+    finished (l .result) (now (s .table)) (s .g) (s .key) (l .ensures) sumOf Unsound (c .enum-told2 .given .1)
 
 pub sum-spec : {M : Type 1} → statement M
 sum-spec =

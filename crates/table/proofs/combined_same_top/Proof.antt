@@ -6,10 +6,10 @@ use borrow.Author.Needs.{needs}
 use Rattle.level.specs.Level.{below}
 use Rattle.level.specs.Carry.{heldOf}
 use Rattle.record.specs.Section.{meaning}
-use Rattle.record.proofs.Parts.{SoundParts, sound-record-parts}
+use Rattle.record.proofs.Parts.{SoundParts, sound-record-parts, held-range}
 use Rattle.table.specs.Combine.{combine}
 use Rattle.table.specs.Steps.{bothAt}
-use Rattle.table.proofs.Totals.{held-range, same-top-high, same-top-middle, same-top-low}
+use Rattle.table.proofs.Totals.{same-top-high, same-top-middle, same-top-low}
 use Rattle.table.proofs.combined_same_top.Statement.{statement}
 use Rattle.table.proofs.combined_same_top.Tie as tie
 
@@ -25,23 +25,23 @@ add-t3 c = search needs
 add-held-requires : tie.Need-add-held-requires
 add-held-requires c κs =
     let s = c .before .before in
-    let x = held-range (s .args .a .count) (s .args .a .high) (few s .0) (parts s .0 .high) in
-    let y = held-range (s .args .b .count) (s .args .b .high) (few s .1) (parts s .1 .high) in
-    (x .0, y .0, omega arith, omega arith)
+    let x = held-range (s .args .a .count) (s .args .a .high) (parts s .0 .high) (few s .0) in
+    let y = held-range (s .args .b .count) (s .args .b .high) (parts s .1 .high) (few s .1) in
+    omega (arith, x, y)
 
 add-held-requires-2 : tie.Need-add-held-requires-2
 add-held-requires-2 c κs =
     let s = c .before .before .before in
-    let x = held-range (s .args .a .count) (s .args .a .middle) (few s .0) (parts s .0 .middle) in
-    let y = held-range (s .args .b .count) (s .args .b .middle) (few s .1) (parts s .1 .middle) in
-    (x .0, y .0, omega arith, omega arith)
+    let x = held-range (s .args .a .count) (s .args .a .middle) (parts s .0 .middle) (few s .0) in
+    let y = held-range (s .args .b .count) (s .args .b .middle) (parts s .1 .middle) (few s .1) in
+    omega (arith, x, y)
 
 add-held-requires-3 : tie.Need-add-held-requires-3
 add-held-requires-3 c κs =
     let s = c .before .before .before .before in
-    let x = held-range (s .args .a .count) (s .args .a .low) (few s .0) (parts s .0 .low) in
-    let y = held-range (s .args .b .count) (s .args .b .low) (few s .1) (parts s .1 .low) in
-    (x .0, y .0, omega arith, omega arith)
+    let x = held-range (s .args .a .count) (s .args .a .low) (parts s .0 .low) (few s .0) in
+    let y = held-range (s .args .b .count) (s .args .b .low) (parts s .1 .low) (few s .1) in
+    omega (arith, x, y)
 
 returns : tie.Need-returns
 unfolding combine

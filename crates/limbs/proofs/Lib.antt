@@ -1,0 +1,7 @@
+-- The laws behind the code's proofs: nearest numbers, limbs, shifts, and the bits of a double.
+pub mod Nearest
+pub mod Columns
+pub mod Shift
+pub mod Leading
+pub mod Packed
+pub mod Scaled

@@ -1,0 +1,177 @@
+-- The bits of the double nearest to n units of 2^-1074. The idea: a finite value's bits are its digits and how many zeros follow them, and a carry out of the
+-- 53 digits raises the field by one, as it should; so digits and field are added, and an infinity comes out just where the sum reaches the field 2047.
+use mathlib.Core.Path.{_≡_, sym, ap, _∙_, subst}
+use mathlib.Core.Logic.{_⊎_, inl, inr, ⊎-elim}
+use Prim.Native.Nat.{ℕ, suc, _+_, _-_, _*_, _/_, _^_, _≤_, _<_}
+use native.Mathlib.Nat.{le-trans, le-of-eq, le-refl, le-antisymm, eq-or-lt-of-le, lt-of-lt-of-le, lt-of-le-of-lt, lt-of-not-le, not-le-of-lt, mul-one, mul-assoc, mul-div-cancel, mul-le-mul-right, div-one, zero-add, suc-add, lt-suc-self, le-div-iff-mul-le, mul-pos, mul-le-mul, add-assoc}
+use native.Mathlib.Omega.{arith}
+use mathlib.Core.Bool.{Bool}
+use lib.Dec.{ltb, lit<}
+use lib.Arith.{le→nltb}
+use lib.Pow.{pow-add, pow-pos, pow-mono, pow-lt, shl-lt}
+use lib.Ieee.{Float, nan, inf, fin, binary64, up, down, size, units, round, toBits, ofBits}
+use lib.Ieee.Digits.{size-lt, size-le, size-reaches}
+use lib.Ieee.Fits.{down-pos, round-is, round-fits, kept-lt}
+use lib.Ieee.Exact.{HasValue, units-val}
+use lib.Ieee.Bits.{ofBits-toBits, cond-no}
+use lib.Ieee.Nearest.{closest, closest-same}
+use Rattle.limbs.specs.Nearest.{odd}
+use Rattle.limbs.specs.Packed.{droppedDigits, significandOf, packed, infinite, signBit}
+use Rattle.limbs.proofs.Nearest.{le-or-lt, nearest-ge, nearest-le, closest-odd}
+
+-- ---- how many digits a number has
+
+-- between 2^a and 2^(a+1) it has a + 1
+pub size-is : (n a : ℕ) → 2 ^ a ≤ n → n < 2 ^ suc a → size n ≡ suc a
+size-is n a l h = le-antisymm (size-le n (suc a) h) (lt-of-not-le (λ (g : size n ≤ a). not-le-of-lt (lt-of-lt-of-le (size-lt n) (pow-mono g)) l))
+
+-- ---- the bits of a finite value of a units of 2^-1074
+
+abbrev written : Bool → ℕ → ℕ
+written s a = signBit s + (size a - 53) * 2 ^ 52 + a / 2 ^ (size a - 53)
+
+value-bits : (x : Float) (s : Bool) (a : ℕ) → HasValue x s a (2 ^ 1074) → toBits binary64 x ≡ written s a
+unfolding toBits
+value-bits nan s a h = absurd h
+value-bits (inf t) s a h = absurd h
+value-bits (fin t m e) s a h =
+    let same : m * up e * 2 ^ 1074 / down e ≡ a = ap (λ (x : ℕ). x / down e) (h .1) ∙ mul-div-cancel a (down-pos e) in
+    ap (λ (b : Bool). signBit b + (size (m * up e * 2 ^ 1074 / down e) - 53) * 2 ^ 52 + m * up e * 2 ^ 1074 / down e / 2 ^ (size (m * up e * 2 ^ 1074 / down e) - 53)) (h .0)
+    ∙ ap (λ (x : ℕ). written s x) same
+
+-- ---- q times 2^k units, q having its 53 digits or k being 0
+
+few : (z : ℕ) → z ≤ 53 → z - 53 ≡ 0
+few z h = omega arith
+
+less : (z k : ℕ) → z ≡ suc (52 + k) → z - 53 ≡ k
+less z k e = omega arith
+
+less-one : (z k : ℕ) → z ≡ suc (53 + k) → z - 53 ≡ suc k
+less-one z k e = omega arith
+
+join : (k q : ℕ) → q ≡ 2 ^ 53 → suc k * 2 ^ 52 + 2 ^ 52 ≡ k * 2 ^ 52 + q
+join k q e = omega arith
+
+-- the 53 digits that are kept of q * 2^k, and how many are not
+abbrev kept-of : ℕ → ℕ → ℕ
+kept-of a d = d * 2 ^ 52 + a / 2 ^ d
+
+plain : (q : ℕ) → q < 2 ^ 53 → kept-of q (size q - 53) ≡ q
+plain q h = ap (λ (d : ℕ). kept-of q d) (few (size q) (size-le q 53 h)) ∙ zero-add (q / 1) ∙ div-one q
+
+size-full : (q k : ℕ) → 2 ^ 52 ≤ q → q < 2 ^ 53 → size (q * 2 ^ k) ≡ suc (52 + k)
+size-full q k l h =
+    size-is (q * 2 ^ k) (52 + k) (le-trans (le-of-eq (pow-add 2 52 k)) (mul-le-mul-right (2 ^ k) l)) (subst (λ (x : ℕ). q * 2 ^ k < 2 ^ x) (suc-add 52 k) (shl-lt 53 k h))
+
+full : (q k : ℕ) → 2 ^ 52 ≤ q → q < 2 ^ 53 → kept-of (q * 2 ^ k) (size (q * 2 ^ k) - 53) ≡ k * 2 ^ 52 + q
+full q k l h =
+    ap (λ (d : ℕ). kept-of (q * 2 ^ k) d) (less (size (q * 2 ^ k)) k (size-full q k l h)) ∙ ap (λ (x : ℕ). k * 2 ^ 52 + x) (mul-div-cancel q (pow-pos k))
+
+size-next : (k : ℕ) → size (2 ^ 53 * 2 ^ k) ≡ suc (53 + k)
+size-next k = ap size (sym (pow-add 2 53 k)) ∙ size-is (2 ^ (53 + k)) (53 + k) (le-refl (2 ^ (53 + k))) (pow-lt (lt-suc-self (53 + k)))
+
+halved : (k : ℕ) → 2 ^ 53 * 2 ^ k / 2 ^ suc k ≡ 2 ^ 52
+halved k =
+    let e : 53 + k ≡ 52 + suc k = omega arith in
+    ap (λ (x : ℕ). x / 2 ^ suc k) (sym (pow-add 2 53 k) ∙ ap (λ (x : ℕ). 2 ^ x) e ∙ pow-add 2 52 (suc k)) ∙ mul-div-cancel (2 ^ 52) (pow-pos (suc k))
+
+next : (q k : ℕ) → q ≡ 2 ^ 53 → kept-of (q * 2 ^ k) (size (q * 2 ^ k) - 53) ≡ k * 2 ^ 52 + q
+next q k e =
+    ap (λ (x : ℕ). kept-of (x * 2 ^ k) (size (x * 2 ^ k) - 53)) e
+    ∙ ap (λ (d : ℕ). kept-of (2 ^ 53 * 2 ^ k) d) (less-one (size (2 ^ 53 * 2 ^ k)) k (size-next k))
+    ∙ ap (λ (x : ℕ). suc k * 2 ^ 52 + x) (halved k)
+    ∙ join k q e
+
+kept-is : (q k : ℕ) → q ≤ 2 ^ 53 → (k ≡ 0) ⊎ (2 ^ 52 ≤ q) → kept-of (q * 2 ^ k) (size (q * 2 ^ k) - 53) ≡ k * 2 ^ 52 + q
+kept-is q k h (inr l) = ⊎-elim (λ e. next q k e) (λ g. full q k l g) (eq-or-lt-of-le h)
+kept-is q k h (inl z) = ⊎-elim (λ e. next q k e) (λ g. low g) (eq-or-lt-of-le h)
+  where
+    low : q < 2 ^ 53 → kept-of (q * 2 ^ k) (size (q * 2 ^ k) - 53) ≡ k * 2 ^ 52 + q
+    low g =
+        ap (λ (j : ℕ). kept-of (q * 2 ^ j) (size (q * 2 ^ j) - 53)) z
+        ∙ ap (λ (x : ℕ). kept-of x (size x - 53)) (mul-one q)
+        ∙ plain q g
+        ∙ sym (ap (λ (j : ℕ). j * 2 ^ 52 + q) z ∙ zero-add q)
+
+-- ---- what rounding n units keeps
+
+pub significand-le : (n : ℕ) → significandOf n ≤ 2 ^ 53
+significand-le n = le-trans (nearest-le odd n (2 ^ droppedDigits n)) (kept-lt 53 n)
+
+pub reaches : (n : ℕ) → 53 < size n → 2 ^ 52 ≤ n / 2 ^ droppedDigits n
+reaches n h =
+    let l : 52 + droppedDigits n < size n = omega arith in
+    le-div-iff-mul-le (pow-pos (droppedDigits n)) .1 (le-trans (le-of-eq (sym (pow-add 2 52 (droppedDigits n)))) (size-reaches n (52 + droppedDigits n) l))
+
+pub significand-ge : (n : ℕ) → (droppedDigits n ≡ 0) ⊎ (2 ^ 52 ≤ significandOf n)
+significand-ge n = ⊎-elim (λ h. inl (few (size n) h)) (λ h. inr (le-trans (reaches n h) (nearest-ge odd n (2 ^ droppedDigits n)))) (le-or-lt (size n) 53)
+
+round-units : (s : Bool) (n : ℕ) → round binary64 s n (2 ^ 1074) ≡ units binary64 s (significandOf n) (droppedDigits n)
+round-units s n =
+    let d = 2 ^ 1074 in
+    round-is binary64 s n d
+    ∙ ap (λ (x : ℕ). units binary64 s (closest (n * d) (d * 2 ^ (size x - 53))) (size x - 53)) (mul-div-cancel n (pow-pos 1074))
+    ∙ ap (λ (q : ℕ). units binary64 s q (droppedDigits n))
+    (closest-same (n * d) (d * 2 ^ droppedDigits n) n (2 ^ droppedDigits n) (mul-pos (pow-pos 1074) (pow-pos (droppedDigits n))) (pow-pos (droppedDigits n)) (mul-assoc n d (2 ^ droppedDigits n)) ∙ closest-odd n (2 ^ droppedDigits n))
+
+-- ---- where the result is finite
+
+over-full : (q k : ℕ) → 2046 ≤ k → 2 ^ 52 ≤ q → 2 ^ 2098 ≤ q * 2 ^ k
+over-full q k h l = le-trans (le-of-eq (pow-add 2 52 2046)) (mul-le-mul l (pow-mono h))
+
+under-full : (q k : ℕ) → k ≤ 2044 → q ≤ 2 ^ 53 → q * 2 ^ k < 2 ^ 2098
+under-full q k h l = lt-of-le-of-lt (mul-le-mul l (pow-mono h)) (lt-of-le-of-lt (le-of-eq (sym (pow-add 2 53 2044))) (pow-lt {i = 2097} {j = 2098} (lit< tt)))
+
+-- in packed and in size alike
+finite-below : (q k : ℕ) → q ≤ 2 ^ 53 → (k ≡ 0) ⊎ (2 ^ 52 ≤ q) → k * 2 ^ 52 + q < infinite → q * 2 ^ k < 2 ^ 2098
+finite-below q k h (inl z) b = under-full q k (omega arith) h
+finite-below q k h (inr l) b = ⊎-elim (λ g. under-full q k g h) (λ g. at g) (le-or-lt k 2044)
+  where
+    at : 2044 < k → q * 2 ^ k < 2 ^ 2098
+    at g =
+        let e : k ≡ 2045 = omega arith in
+        let r : q < 2 ^ 53 = omega arith in
+        subst (λ (j : ℕ). q * 2 ^ j < 2 ^ 2098) (sym e) (shl-lt 53 2045 r)
+
+infinite-above : (q k : ℕ) → q ≤ 2 ^ 53 → (k ≡ 0) ⊎ (2 ^ 52 ≤ q) → infinite ≤ k * 2 ^ 52 + q → 2 ^ 2098 ≤ q * 2 ^ k
+infinite-above q k h (inl z) b = absurd (no z)
+  where
+    no : k ≡ 0 → ⊥
+    no e = omega arith
+infinite-above q k h (inr l) b = ⊎-elim (λ g. at g) (λ g. over-full q k g l) (le-or-lt k 2045)
+  where
+    at : k ≤ 2045 → 2 ^ 2098 ≤ q * 2 ^ k
+    at g =
+        let e : k ≡ 2045 = omega arith in
+        let r : 2 ^ 53 ≤ q = omega arith in
+        subst (λ (j : ℕ). 2 ^ 2098 ≤ q * 2 ^ j) (sym e) (le-trans (le-of-eq (pow-add 2 53 2045)) (mul-le-mul-right (2 ^ 2045) r))
+
+-- ---- the packed is the rounded value's, and the rounded value is an infinity from `infinite` on
+
+pub packed-bits : (s : Bool) (n : ℕ) → packed n < infinite → toBits binary64 (round binary64 s n (2 ^ 1074)) ≡ signBit s + packed n
+packed-bits s n h =
+    let q = significandOf n in
+    let k = droppedDigits n in
+    ap (λ (x : Float). toBits binary64 x) (round-units s n)
+    ∙ value-bits (units binary64 s q k) s (q * 2 ^ k) (units-val binary64 s q k (finite-below q k (significand-le n) (significand-ge n) h))
+    ∙ add-assoc (signBit s) ((size (q * 2 ^ k) - 53) * 2 ^ 52) (q * 2 ^ k / 2 ^ (size (q * 2 ^ k) - 53))
+    ∙ ap (λ (x : ℕ). signBit s + x) (kept-is q k (significand-le n) (significand-ge n))
+
+pub packed-value : (s : Bool) (n : ℕ) → packed n < infinite → ofBits binary64 (signBit s + packed n) ≡ round binary64 s n (2 ^ 1074)
+packed-value s n h =
+    ap (λ (b : ℕ). ofBits binary64 b) (sym (packed-bits s n h)) ∙ ofBits-toBits binary64 (round binary64 s n (2 ^ 1074)) (round-fits binary64 s n (2 ^ 1074))
+
+units-inf : (s : Bool) (q k : ℕ) → 2 ^ 2098 ≤ q * 2 ^ k → units binary64 s q k ≡ inf s
+unfolding units
+units-inf s q k h = cond-no (ltb (q * 2 ^ k) (2 ^ 2098)) _ (inf s) (le→nltb (q * 2 ^ k) (2 ^ 2098) h)
+
+pub packed-inf : (s : Bool) (n : ℕ) → infinite ≤ packed n → round binary64 s n (2 ^ 1074) ≡ inf s
+packed-inf s n h = round-units s n ∙ units-inf s (significandOf n) (droppedDigits n) (infinite-above (significandOf n) (droppedDigits n) (significand-le n) (significand-ge n) h)
+
+-- below that it is finite, and a whole number of units
+pub packed-finite : (s : Bool) (n : ℕ) → packed n < infinite → HasValue (round binary64 s n (2 ^ 1074)) s (significandOf n * 2 ^ droppedDigits n) (2 ^ 1074)
+packed-finite s n h =
+    let q = significandOf n in
+    let k = droppedDigits n in
+    rw (round-units s n) (units-val binary64 s q k (finite-below q k (significand-le n) (significand-ge n) h))

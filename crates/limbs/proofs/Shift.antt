@@ -1,0 +1,150 @@
+-- A number shifted left, by whole limbs and by digits. The idea: each limb times 2^d is split at 40 digits; the low part stays, the high part joins the next limb.
+use mathlib.Core.Path.{_≡_, sym, ap, ap₂, _∙_}
+use Prim.Native.Nat.{ℕ, suc, _+_, _-_, _*_, _/_, _%_, _^_, _≤_, _<_}
+use native.Mathlib.Nat.{le-trans, le-of-eq, lt-of-lt-of-le, lt-of-not-le, not-le-of-lt, mul-assoc, add-zero, mul-le-mul-right, mul-mod-left, mod-lt, mod-eq-of-lt, le-add-right, mul-div-mul-right}
+use native.Mathlib.Omega.{arith}
+use mathlib.Core.List.{List, [], _∷_}
+use lib.ListN.{getD}
+use mir.Syntax.{w64}
+use mir.Val.{Fits}
+use lib.Count.{leadingZeros, leading-top}
+use lib.Pow.{pow-add, pow-pos, pow-mono, shr-le, shr-lt, shl-lt, shl-shr, mod-pow-add}
+use Rattle.limbs.specs.Limbs.{valueOf, Normal, ShiftedLeft}
+
+-- ---- by whole limbs, those above being 0
+
+pub limbs-one : (a b c d : ℕ) → d ≤ 0 → 0 + 2 ^ 40 * a + 2 ^ 80 * b + 2 ^ 120 * c ≡ (a + 2 ^ 40 * b + 2 ^ 80 * c + 2 ^ 120 * d) * 2 ^ 40
+limbs-one a b c d h =
+    let e : 0 + 2 ^ 40 * a + 2 ^ 80 * b + 2 ^ 120 * c ≡ (a + 2 ^ 40 * b + 2 ^ 80 * c) * 2 ^ 40 = omega arith in
+    let f : a + 2 ^ 40 * b + 2 ^ 80 * c ≡ a + 2 ^ 40 * b + 2 ^ 80 * c + 2 ^ 120 * d = omega arith in
+    e ∙ ap (λ (x : ℕ). x * 2 ^ 40) f
+
+pub limbs-two : (a b c d : ℕ) → d ≤ 0 → c ≤ 0 → 0 + 2 ^ 40 * 0 + 2 ^ 80 * a + 2 ^ 120 * b ≡ (a + 2 ^ 40 * b + 2 ^ 80 * c + 2 ^ 120 * d) * 2 ^ 80
+limbs-two a b c d h k =
+    let e : 0 + 2 ^ 40 * 0 + 2 ^ 80 * a + 2 ^ 120 * b ≡ (a + 2 ^ 40 * b) * 2 ^ 80 = omega arith in
+    let f : a + 2 ^ 40 * b ≡ a + 2 ^ 40 * b + 2 ^ 80 * c + 2 ^ 120 * d = omega arith in
+    e ∙ ap (λ (x : ℕ). x * 2 ^ 80) f
+
+pub limbs-three : (a b c d : ℕ) → d ≤ 0 → c ≤ 0 → b ≤ 0 → 0 + 2 ^ 40 * 0 + 2 ^ 80 * 0 + 2 ^ 120 * a ≡ (a + 2 ^ 40 * b + 2 ^ 80 * c + 2 ^ 120 * d) * 2 ^ 120
+limbs-three a b c d h k l =
+    let e : 0 + 2 ^ 40 * 0 + 2 ^ 80 * 0 + 2 ^ 120 * a ≡ a * 2 ^ 120 = omega arith in
+    let f : a ≡ a + 2 ^ 40 * b + 2 ^ 80 * c + 2 ^ 120 * d = omega arith in
+    e ∙ ap (λ (x : ℕ). x * 2 ^ 120) f
+
+pub last-pos : (a b c d : ℕ) → 0 < a + 2 ^ 40 * b + 2 ^ 80 * c + 2 ^ 120 * d → d ≤ 0 → c ≤ 0 → b ≤ 0 → 0 < a
+last-pos a b c d p h k l = omega arith
+
+-- ---- by d digits, fewer than 40: of x * 2^d the last 40 digits stay in the limb, and the others leave it
+
+module _ (x d : ℕ) (h : d < 40) where
+  whole : 2 ^ (40 - d) * 2 ^ d ≡ 2 ^ 40
+  whole = let e : 40 - d + d ≡ 40 = omega arith in sym (pow-add 2 (40 - d) d) ∙ ap (λ (k : ℕ). 2 ^ k) e
+
+  pub leaves : x / 2 ^ (40 - d) ≡ x * 2 ^ d / 2 ^ 40
+  leaves = sym (mul-div-mul-right x (2 ^ (40 - d)) (pow-pos d)) ∙ ap (λ (y : ℕ). x * 2 ^ d / y) whole
+
+  leaves-lt : x < 2 ^ 40 → x * 2 ^ d / 2 ^ 40 < 2 ^ d
+  leaves-lt k = let e : 40 + d ≡ d + 40 = omega arith in shr-lt d 40 (lt-of-lt-of-le (shl-lt 40 d k) (le-of-eq (ap (λ (y : ℕ). 2 ^ y) e)))
+
+  -- what stays ends in d zeros, and leaves room for them
+  stays-lt : x * 2 ^ d % 2 ^ 40 + 2 ^ d ≤ 2 ^ 40
+  stays-lt =
+      let e : 40 - d + d ≡ 40 = omega arith in
+      let l : suc (x % 2 ^ (40 - d)) ≤ 2 ^ (40 - d) = mod-lt x (pow-pos (40 - d)) in
+      let m = mul-le-mul-right (2 ^ d) l in
+      let w = whole in
+      let s : x * 2 ^ d % 2 ^ 40 ≡ x % 2 ^ (40 - d) * 2 ^ d =
+      ap (λ (k : ℕ). x * 2 ^ d % 2 ^ k) (sym e) ∙ mod-pow-add (x * 2 ^ d) (40 - d) d
+      ∙ ap₂ (λ (y z : ℕ). y % 2 ^ (40 - d) * 2 ^ d + z) (shl-shr x d) (mul-mod-left x (2 ^ d)) ∙ add-zero _ in
+      omega arith
+
+-- a shift of 64 bits drops no digit that stays
+pub stays : (y : ℕ) → y % 2 ^ 64 % 2 ^ 40 ≡ y % 2 ^ 40
+stays y = omega arith
+
+pub limb-fits : (x y d : ℕ) → y < 2 ^ 40 → Fits w64 (x % 2 ^ 40 + y / 2 ^ (40 - d))
+limb-fits x y d k = let l = shr-le y (40 - d) in omega arith
+
+-- a limb with what comes from the one below it has 40 digits
+limb-lt : (x y d : ℕ) → d < 40 → y < 2 ^ 40 → x * 2 ^ d % 2 ^ 40 + y * 2 ^ d / 2 ^ 40 < 2 ^ 40
+limb-lt x y d h k = let a = stays-lt x d h in let b = leaves-lt y d h k in omega arith
+
+-- all four, the first with nothing from below
+join : (p q r s m n o i j k : ℕ) → m + 2 ^ 40 * i ≡ p → n + 2 ^ 40 * j ≡ q → o + 2 ^ 40 * k ≡ r
+    → m + 0 + 2 ^ 40 * (n + i) + 2 ^ 80 * (o + j) + 2 ^ 120 * (s + k) ≡ p + 2 ^ 40 * q + 2 ^ 80 * r + 2 ^ 120 * s
+join p q r s m n o i j k e f g = omega arith
+
+parts : (x : ℕ) → x % 2 ^ 40 + 2 ^ 40 * (x / 2 ^ 40) ≡ x
+parts x = omega arith
+
+multiplied : (a b c d w : ℕ) → a * w + 2 ^ 40 * (b * w) + 2 ^ 80 * (c * w) + 2 ^ 120 * (d * w) ≡ (a + 2 ^ 40 * b + 2 ^ 80 * c + 2 ^ 120 * d) * w
+multiplied a b c d w = omega arith
+
+-- a limb x shifted left by d, with what comes from the limb y below it
+abbrev pub shiftedLimb : ℕ → ℕ → ℕ → ℕ
+shiftedLimb x y d = x * 2 ^ d % 2 ^ 40 + y * 2 ^ d / 2 ^ 40
+
+pub shifted : (a : List ℕ) (d : ℕ) → d < 40 → Normal a → getD a 3 0 < 2 ^ (40 - d)
+    → ShiftedLeft a (shiftedLimb (getD a 0 0) 0 d ∷ shiftedLimb (getD a 1 0) (getD a 0 0) d ∷ shiftedLimb (getD a 2 0) (getD a 1 0) d ∷ shiftedLimb (getD a 3 0) (getD a 2 0) d ∷ []) d
+    × (getD a 3 0 * 2 ^ d ≤ shiftedLimb (getD a 3 0) (getD a 2 0) d)
+shifted a d h g l =
+    let w = getD a 0 0 in
+    let x = getD a 1 0 in
+    let y = getD a 2 0 in
+    let z = getD a 3 0 in
+    let full : 40 - d + d ≡ 40 = omega arith in
+    let last : z * 2 ^ d % 2 ^ 40 ≡ z * 2 ^ d = mod-eq-of-lt (lt-of-lt-of-le (shl-lt (40 - d) d l) (le-of-eq (ap (λ (k : ℕ). 2 ^ k) full))) in
+    let none : 0 * 2 ^ d / 2 ^ 40 ≡ 0 = omega arith in (
+      record {
+        normal = record { limb0 = limb-lt w 0 d h (omega arith); limb1 = limb-lt x w d h (g .limb0); limb2 = limb-lt y x d h (g .limb1); limb3 = limb-lt z y d h (g .limb2) };
+        same =
+            ap₂ (λ (f e : ℕ). w * 2 ^ d % 2 ^ 40 + f + 2 ^ 40 * shiftedLimb x w d + 2 ^ 80 * shiftedLimb y x d + 2 ^ 120 * (e + y * 2 ^ d / 2 ^ 40)) none last
+            ∙ join (w * 2 ^ d) (x * 2 ^ d) (y * 2 ^ d) (z * 2 ^ d) _ _ _ _ _ _ (parts (w * 2 ^ d)) (parts (x * 2 ^ d)) (parts (y * 2 ^ d))
+            ∙ multiplied w x y z (2 ^ d);
+      },
+      le-trans (le-of-eq (sym last)) (le-add-right (z * 2 ^ d % 2 ^ 40) (y * 2 ^ d / 2 ^ 40)),
+    )
+
+-- shifted twice
+pub shifted-on : (a b r : List ℕ) (s d : ℕ) → ShiftedLeft a b s → ShiftedLeft b r d → ShiftedLeft a r (s + d)
+shifted-on a b r s d p q =
+    record {
+      normal = q .normal;
+      same = q .same ∙ ap (λ (x : ℕ). x * 2 ^ d) (p .same) ∙ mul-assoc (valueOf a) (2 ^ s) (2 ^ d) ∙ ap (λ (x : ℕ). valueOf a * x) (sym (pow-add 2 s d));
+    }
+
+-- ---- until the leading digit is set
+
+-- how many zeros stand above the leading digit of a limb x that is not 0, of its 40 places
+module _ (x : ℕ) (p : 0 < x) (l : x < 2 ^ 40) where
+  abbrev zeros : ℕ
+  zeros = leadingZeros 64 x
+
+  top : (j : ℕ) × (zeros + suc j ≡ 64) × (2 ^ j ≤ x) × (x < 2 ^ suc j)
+  top = leading-top 64 x p (lt-of-lt-of-le l (pow-mono {i = 40} {j = 64} (omega arith)))
+
+  top-lt : top .0 < 40
+  top-lt = lt-of-not-le (λ (g : 40 ≤ top .0). not-le-of-lt l (le-trans (pow-mono g) (top .2)))
+
+  pub zeros-ge : 24 ≤ zeros
+  zeros-ge = omega (arith, top .1, top-lt)
+
+  pub zeros-lt : zeros - 24 < 40
+  zeros-lt = omega (arith, top .1)
+
+  pub room : x < 2 ^ (40 - (zeros - 24))
+  room = let q : suc (top .0) ≡ 40 - (zeros - 24) = omega (arith, top .1, top-lt) in lt-of-lt-of-le (top .3) (le-of-eq (ap (λ (k : ℕ). 2 ^ k) q))
+
+  pub leads : 2 ^ 39 ≤ x * 2 ^ (zeros - 24)
+  leads =
+      let e : 39 ≡ top .0 + (zeros - 24) = omega (arith, top .1, top-lt) in
+      le-trans (le-of-eq (ap (λ (k : ℕ). 2 ^ k) e ∙ pow-add 2 (top .0) (zeros - 24))) (mul-le-mul-right (2 ^ (zeros - 24)) (top .2))
+
+  pub zeros-fit : Fits w64 zeros
+  zeros-fit = omega (arith, top .1)
+
+  pub by-lt : (s : ℕ) → s ≤ 120 → s + (zeros - 24) < 160
+  by-lt s h = omega (arith, top .1)
+
+  pub by-fits : (s : ℕ) → s ≤ 120 → Fits w64 (s + (zeros - 24))
+  by-fits s h = omega (arith, top .1)

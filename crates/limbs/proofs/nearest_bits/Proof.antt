@@ -1,0 +1,61 @@
+use mathlib.Core.Path.{ap, _∙_}
+use Prim.Native.Nat.{ℕ, _+_, _-_, _*_, _/_, _^_, _≤_}
+use native.Mathlib.Nat.{le-trans, le-of-eq}
+use Rattle.limbs.proofs.Leading.{leading-le}
+use Rattle.limbs.proofs.Scaled.{field-lt, sum-fits, assembled, shift-lt, shifted}
+use borrow.Author.Needs.{needs}
+use Rattle.limbs.proofs.nearest_bits.Statement.{statement}
+use Rattle.limbs.proofs.nearest_bits.Tie as tie
+
+normalise-requires : tie.Need-normalise-requires
+normalise-requires c κs = search needs
+
+leading-digits-requires : tie.Need-leading-digits-requires
+leading-digits-requires c κs = search needs
+
+add-up : tie.Need-add-up
+add-up c = search needs
+
+assemble-requires : tie.Need-assemble-requires
+assemble-requires c κs =
+    let s = c .before .before .before .before in
+    let r = c .before .before .before .normalise in
+    let q : c .before .leading-digits .result ≤ 2 ^ 53 = le-trans (le-of-eq (c .before .leading-digits .ensures)) (leading-le (r .result .limbs) (r .ensures .0 .normal)) in
+    (field-lt (s .args .e) (r .result .by) (s .pre .1 .0 .1), sum-fits (s .args .e) (r .result .by) (c .before .leading-digits .result) (s .pre .1 .0 .1) q .fits)
+
+returns : tie.Need-returns
+returns c =
+    let s = c .before .before .before .before .before in
+    let r = c .before .before .before .before .normalise in
+    c .assemble .ensures
+    ∙ ap (λ (q : ℕ). (27 + s .args .e - r .result .by) * 2 ^ 52 + q) (c .before .before .leading-digits .ensures)
+    ∙ assembled (s .args .a) (r .result .limbs) (s .args .e) (r .result .by) (r .ensures .0) (r .ensures .1 .0) (s .pre .1 .1) (c .before .if1 .taken)
+
+sub-result : tie.Need-sub-result
+sub-result c = search needs
+
+shr-result : tie.Need-shr-result
+shr-result c =
+    let s = c .before .before .before .before in
+    let r = c .before .before .before .normalise in
+    shift-lt (s .args .a) (r .result .limbs) (s .args .e) (r .result .by) (r .ensures .0) (r .ensures .1 .0) (s .pre .1 .1) (c .if1 .left)
+
+returns-2 : tie.Need-returns-2
+returns-2 c =
+    let s = c .before .before .before .before in
+    let r = c .before .before .before .normalise in
+    ap (λ (q : ℕ). q / 2 ^ (r .result .by - (27 + s .args .e))) (c .before .leading-digits .ensures)
+    ∙ shifted (s .args .a) (r .result .limbs) (s .args .e) (r .result .by) (r .ensures .0) (r .ensures .1 .0) (s .pre .1 .1) (c .if1 .left)
+
+pub nearest-bits-spec : {M : Type 1} → statement M
+nearest-bits-spec =
+    tie.close
+    (tie.spec
+    normalise-requires
+    leading-digits-requires
+    add-up
+    assemble-requires
+    returns
+    sub-result
+    shr-result
+    returns-2)

@@ -1,0 +1,32 @@
+use mathlib.Core.Path.{sym, ap, _∙_}
+use Prim.Native.Nat.{ℕ, _+_}
+use native.Mathlib.Nat.{lt-of-lt-of-le, le-trans, le-of-eq}
+use native.Mathlib.Numerals.{add-one}
+use Rattle.limbs.proofs.Nearest.{round-next, round-stay}
+use borrow.Author.Needs.{needs}
+use Rattle.limbs.proofs.round.Statement.{statement}
+use Rattle.limbs.proofs.round.Tie as tie
+
+one-if-requires : tie.Need-one-if-requires
+one-if-requires c κs = search needs
+
+add-if1 : tie.Need-add-if1
+add-if1 c = search needs
+
+add-result : tie.Need-add-result
+add-result c = search needs
+
+returns : tie.Need-returns
+returns c =
+    let a = c .before .before .args in
+    let e = ap (λ (x : ℕ). a .rest + x) (c .before .one-if .ensures .0) in
+    add-one (a .q) ∙ round-next (a .up) (a .q) (a .rest) (a .half) (lt-of-lt-of-le (c .if1 .taken) (le-of-eq e))
+
+returns-2 : tie.Need-returns-2
+returns-2 c =
+    let a = c .before .before .args in
+    let e = ap (λ (x : ℕ). a .rest + x) (c .before .one-if .ensures .0) in
+    round-stay (a .up) (a .q) (a .rest) (a .half) (le-trans (le-of-eq (sym e)) (c .if1 .left))
+
+pub round-spec : {M : Type 1} → statement M
+round-spec = tie.close (tie.spec one-if-requires add-if1 add-result returns returns-2)

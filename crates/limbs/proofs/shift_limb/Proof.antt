@@ -1,0 +1,26 @@
+use mathlib.Core.Path.{ap₂}
+use Prim.Native.Nat.{ℕ, _+_, _*_, _^_}
+use Rattle.limbs.proofs.Shift.{stays, leaves, limb-fits}
+use borrow.Author.Needs.{needs}
+use Rattle.limbs.proofs.shift_limb.Statement.{statement}
+use Rattle.limbs.proofs.shift_limb.Tie as tie
+
+shl-result : tie.Need-shl-result
+shl-result c = search needs
+
+sub-result : tie.Need-sub-result
+sub-result c = search needs
+
+shr-result : tie.Need-shr-result
+shr-result c = search needs
+
+add-result : tie.Need-add-result
+add-result c = rw (stays (c .args .x * 2 ^ c .args .d)) (limb-fits (c .args .x * 2 ^ c .args .d) (c .args .below) (c .args .d) (c .pre .1))
+
+returns : tie.Need-returns
+returns c =
+    let a = c .args in
+    ap₂ (λ (x y : ℕ). x + y) (stays (a .x * 2 ^ a .d)) (leaves (a .below) (a .d) (c .pre .0))
+
+pub shift-limb-spec : {M : Type 1} → statement M
+shift-limb-spec = tie.close (tie.spec shl-result sub-result shr-result add-result returns)

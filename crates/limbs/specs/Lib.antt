@@ -1,0 +1,4 @@
+-- The definitions that the contracts cite.
+pub mod Limbs
+pub mod Nearest
+pub mod Packed

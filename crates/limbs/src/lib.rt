@@ -1,0 +1,221 @@
+// Numbers of 160 binary digits in four limbs of 40, the lowest first: distance, shift, and the one rounding to a double's bits.
+ghost use mathlib.Core.Path.{_≡_};
+ghost use mathlib.Core.Bool.{cond};
+ghost use Prim.Native.Nat.{_+_, _-_, _*_, _/_, _%_, _^_, _<_, _≤_, compare};
+ghost use lib.Dec.{eqb};
+ghost use lib.ListN.{getD};
+ghost use Rattle.limbs.specs.Limbs.{valueOf, Normal, Carried, DifferenceWithBias, withoutBias, Distance, ShiftedLeft};
+ghost use Rattle.limbs.specs.Nearest.{rounded};
+ghost use Rattle.limbs.specs.Packed.{leadingDigits, packed, unitsOf};
+
+// What a limb stays below.
+pub const LIMB: u64 = 1 << 40;
+
+// The largest limb.
+const LARGEST: u64 = (1 << 40) - 1;
+
+// The same number with 40 digits in each of the first three limbs.
+pub fn propagate(a: [u64; 4]) -> [u64; 4]
+    requires { ⌜ (getD a 0 0 < 2 ^ 62) × (getD a 1 0 < 2 ^ 62) × (getD a 2 0 < 2 ^ 62) × (getD a 3 0 < 2 ^ 62) ⌝ }
+    ensures { λ r. ⌜ Carried (valueOf a) (getD a 3 0 + 2 ^ 23) r ⌝ }
+{
+    let b = a[1] + (a[0] >> 40);
+    let c = a[2] + (b >> 40);
+    let d = a[3] + (c >> 40);
+    [a[0] % LIMB, b % LIMB, c % LIMB, d]
+}
+
+// Whether the number is 0.
+pub fn is_zero(a: [u64; 4]) -> bool
+    requires { ⌜ Normal a ⌝ }
+    ensures { λ r. ⌜ r ≡ eqb (valueOf a) 0 ⌝ }
+{
+    a[0] + a[1] + a[2] + a[3] == 0
+}
+
+// A limb less another, with `more` added.
+fn limb_difference(x: u64, y: u64, more: u64) -> u64
+    requires { ⌜ (x < 2 ^ 40) × (y ≤ more) × (more ≤ 2 ^ 40) ⌝ }
+    ensures { λ r. ⌜ r ≡ x + more - y ⌝ }
+{
+    x + more - y
+}
+
+// a - b with 2^160 more, which is not negative.
+fn difference_with_bias(a: [u64; 4], b: [u64; 4]) -> [u64; 4]
+    requires { ⌜ Normal a ⌝ }
+    requires { ⌜ Normal b ⌝ }
+    ensures { λ r. ⌜ DifferenceWithBias a b r ⌝ }
+{
+    propagate([
+        limb_difference(a[0], b[0], LIMB),
+        limb_difference(a[1], b[1], LARGEST),
+        limb_difference(a[2], b[2], LARGEST),
+        limb_difference(a[3], b[3], LARGEST),
+    ])
+}
+
+// 2^160 less.
+fn without_bias(a: [u64; 4]) -> [u64; 4]
+    requires { ⌜ 2 ^ 40 ≤ getD a 3 0 ⌝ }
+    ensures { λ r. ⌜ r ≡ withoutBias a ⌝ }
+{
+    [a[0], a[1], a[2], a[3] - LIMB]
+}
+
+// How far two numbers are apart, and whether the second is the larger.
+pub struct Magnitude {
+    pub limbs: [u64; 4],
+    pub negative: bool,
+}
+
+pub fn distance(p: [u64; 4], q: [u64; 4]) -> Magnitude
+    requires { ⌜ Normal p ⌝ }
+    requires { ⌜ Normal q ⌝ }
+    ensures { λ r. ⌜ Normal (r .limbs) ⌝ }
+    ensures { λ r. ⌜ Distance (r .negative) (valueOf (r .limbs)) (valueOf p) (valueOf q) ⌝ }
+{
+    let up = difference_with_bias(p, q);
+    if up[3] >= LIMB {
+        return Magnitude {
+            limbs: without_bias(up),
+            negative: false,
+        };
+    }
+    Magnitude {
+        limbs: without_bias(difference_with_bias(q, p)),
+        negative: true,
+    }
+}
+
+// A number shifted left, and by how many digits.
+struct Shifted {
+    limbs: [u64; 4],
+    by: u64,
+}
+
+// Shifted left by whole limbs, until the last limb is not 0.
+fn shift_limbs(a: [u64; 4]) -> Shifted
+    requires { ⌜ Normal a ⌝ }
+    requires { ⌜ 0 < valueOf a ⌝ }
+    ensures { λ r. ⌜ ShiftedLeft a (r .limbs) (r .by) ⌝ }
+    ensures { λ r. ⌜ (0 < getD (r .limbs) 3 0) × (r .by ≤ 120) ⌝ }
+{
+    if a[3] > 0 {
+        return Shifted { limbs: a, by: 0 };
+    }
+    if a[2] > 0 {
+        return Shifted {
+            limbs: [0, a[0], a[1], a[2]],
+            by: 40,
+        };
+    }
+    if a[1] > 0 {
+        return Shifted {
+            limbs: [0, 0, a[0], a[1]],
+            by: 80,
+        };
+    }
+    Shifted {
+        limbs: [0, 0, 0, a[0]],
+        by: 120,
+    }
+}
+
+// A limb shifted left by d digits: those of x that stay in it, and those that come from the limb below.
+fn shift_limb(x: u64, below: u64, d: u64) -> u64
+    requires { ⌜ (d < 40) × (below < 2 ^ 40) ⌝ }
+    ensures { λ r. ⌜ r ≡ x * 2 ^ d % 2 ^ 40 + below * 2 ^ d / 2 ^ 40 ⌝ }
+{
+    (x << d) % LIMB + (below >> (40 - d))
+}
+
+// Shifted left by d digits, which the last limb has room for.
+fn shift_digits(a: [u64; 4], d: u64) -> [u64; 4]
+    requires { ⌜ Normal a ⌝ }
+    requires { ⌜ (d < 40) × (getD a 3 0 < 2 ^ (40 - d)) ⌝ }
+    ensures { λ r. ⌜ ShiftedLeft a r d ⌝ }
+    ensures { λ r. ⌜ getD a 3 0 * 2 ^ d ≤ getD r 3 0 ⌝ }
+{
+    [
+        shift_limb(a[0], 0, d),
+        shift_limb(a[1], a[0], d),
+        shift_limb(a[2], a[1], d),
+        shift_limb(a[3], a[2], d),
+    ]
+}
+
+// Shifted left until the leading digit of the 160 is set.
+fn normalise(a: [u64; 4]) -> Shifted
+    requires { ⌜ Normal a ⌝ }
+    requires { ⌜ 0 < valueOf a ⌝ }
+    ensures { λ r. ⌜ ShiftedLeft a (r .limbs) (r .by) ⌝ }
+    ensures { λ r. ⌜ (2 ^ 39 ≤ getD (r .limbs) 3 0) × (r .by < 160) ⌝ }
+{
+    let m = shift_limbs(a);
+    let limbs = m.limbs;
+    let d = u64::leading_zeros(limbs[3]) as u64 - 24;
+    Shifted {
+        limbs: shift_digits(limbs, d),
+        by: m.by + d,
+    }
+}
+
+fn one_if(b: bool) -> u64
+    ensures { λ r. ⌜ (r ≡ cond b 1 0) × (r ≤ 1) ⌝ }
+{
+    if b { 1 } else { 0 }
+}
+
+// The quotient q or the next number, whichever is nearer, by its rest and half of the divisor; at an exact half the next where `up` says so, for which the
+// rest counts one more.
+pub fn round(q: u64, rest: u64, half: u64, up: bool) -> u64
+    requires { ⌜ (q < 2 ^ 63) × (rest < 2 ^ 63) ⌝ }
+    ensures { λ r. ⌜ r ≡ rounded up q (compare rest half) ⌝ }
+{
+    if rest + one_if(up) > half { q + 1 } else { q }
+}
+
+// The digits below the 53 leading ones, as a number of units of which 2^27 are a half: 27 digits, and one that is set where any lower digit is.
+fn lower_digits(a: [u64; 4]) -> u64
+    requires { ⌜ Normal a ⌝ }
+    ensures { λ r. ⌜ (compare r (2 ^ 27) ≡ compare (valueOf a % 2 ^ 107 * 2) (2 ^ 107)) × (r < 2 ^ 28) ⌝ }
+{
+    let rest = a[2] % (1 << 27) * 2;
+    if a[1] + a[0] > 0 { rest + 1 } else { rest }
+}
+
+// The 53 leading digits of the 160, to the nearest number, an exact half to the even one.
+fn leading_digits(a: [u64; 4]) -> u64
+    requires { ⌜ Normal a ⌝ }
+    ensures { λ r. ⌜ r ≡ leadingDigits a ⌝ }
+{
+    let q = a[3] * 8192 + (a[2] >> 27);
+    round(q, lower_digits(a), 1 << 27, q % 2 == 1)
+}
+
+// The bits with this field below these digits; a hidden digit among them adds one to the field.
+fn assemble(field: u64, digits: u64) -> u64
+    requires { ⌜ (field < 2 ^ 12) × (field * 2 ^ 52 + digits < 2 ^ 64) ⌝ }
+    ensures { λ r. ⌜ r ≡ field * 2 ^ 52 + digits ⌝ }
+{
+    (field << 52) + digits
+}
+
+// The bits, without the sign, of the double nearest to a × 2^e / 2^80 units of 2^-1074.
+pub fn nearest_bits(a: [u64; 4], e: u64) -> u64
+    requires { ⌜ Normal a ⌝ }
+    requires { ⌜ (0 < valueOf a) × (e ≤ 2080) ⌝ }
+    requires { ⌜ unitsOf a e * 2 ^ 80 ≡ valueOf a * 2 ^ e ⌝ }
+    ensures { λ r. ⌜ r ≡ packed (unitsOf a e) ⌝ }
+{
+    let n = normalise(a);
+    let by = n.by;
+    let limbs = n.limbs;
+    let digits = leading_digits(limbs);
+    let up = 27 + e;
+    if by <= up {
+        return assemble(up - by, digits);
+    }
+    digits >> (by - up)
+}
