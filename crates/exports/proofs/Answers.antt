@@ -2,14 +2,11 @@
 use Prim.Native.Nat.{ℕ, _/_, _≤_}
 use native.Mathlib.Nat.{min-le-right}
 use mathlib.Core.Path.{_≡_, refl, sym, ap, subst, _∙_}
-use mathlib.Core.Bool.{Bool, true, false, cond}
 use mathlib.Core.List.{List}
-use mathlib.Core.Option.{Option, none, some}
 use native.Mathlib.Omega.{arith}
-use lib.Dec.{T, ltb}
+use lib.Dec.{ltb}
 use lib.IntN.{ℤ, pos, negℤ}
 use lib.ListN.{length}
-use lib.Ieee.Scale.{finite}
 use mir.Syntax.{w32, w64}
 use mir.Val.{SFits, toZ, ofZ}
 use mir.Facts.{sfits-widen}
@@ -19,15 +16,7 @@ use Rattle.refusal.specs.Outcome.{Outcome, accepted, refused, Ground, outcome, 
 use Rattle.refusal.proofs.Outcomes.{accepted-not, accepted-value}
 use Rattle.columns.specs.declared.Kind.the-variants.{Double}
 use Rattle.record.specs.Layout.{capacity}
-use Rattle.record.specs.Sound.{sound}
-use Rattle.record.specs.Section.{Section, kept, sections, find}
 use Rattle.table.specs.Calls.{addSections, columnGrounds, addGrounds, addOutcome, mergeSections, mergeGrounds, mergeOutcome}
-use Rattle.finish.specs.Sum.{nearestDouble, tooLarge}
-use Rattle.finish.specs.Figure.{beyond}
-use Rattle.finish.specs.Finish.{figureFor, lineFor, lineOf, lineOutcome}
-use Rattle.finish.specs.declared.FinishedLine.{FinishedLine}
-use Rattle.finish.proofs.Sums.{nearest-finite}
-use Rattle.finish.proofs.Outcomes.{never}
 use Rattle.exports.specs.Calls.{returned}
 
 -- a refusal's number, read back
@@ -56,20 +45,3 @@ add-groups s g ks vs work = groups-le (addGrounds Double s g ks vs work) (length
 pub merge-groups : (s : List ℕ) (g : ℕ) (s′ : List ℕ) (g′ : ℕ) {n : ℕ} → mergeOutcome s g s′ g′ ≡ accepted n → n ≤ 1024
 unfolding mergeGrounds
 merge-groups s g s′ g′ = groups-le (mergeGrounds s g s′ g′) (length s) (length (mergeSections s g s′ g′)) refl
-
--- the sum of a finished line is finite
-line-finite : (o : Option Section) (l : FinishedLine) → accepted l ≡ lineOf o → T (finite (l .sum))
-line-finite none l e = never (cc)
-line-finite (some s) l e = by (tooLarge (kept s)) (beyond (figureFor s)) (nearest-finite (kept s)) e
-  where
-    by : (a b : Bool) → (a ≡ false → T (finite (nearestDouble (kept s)))) → accepted l ≡ cond a (refused 14) (cond b (refused 15) (accepted (lineFor s))) → T (finite (l .sum))
-    by true b h e = never (cc)
-    by false true h e = never (cc)
-    by false false h e = let q : l ≡ lineFor s = cc in rw q (h refl)
-
-pub line-sum-finite : (l : FinishedLine) (s : List ℕ) (g k : ℕ) → accepted l ≡ lineOutcome s g k → T (finite (l .sum))
-line-sum-finite l s g k e = by (sound s g) e
-  where
-    by : (b : Bool) → accepted l ≡ cond b (lineOf (find k (sections s g))) (refused 7) → T (finite (l .sum))
-    by true e = line-finite (find k (sections s g)) l e
-    by false e = never (cc)

@@ -1,5 +1,5 @@
 -- The figure and the line, from the sum. The idea: one case split by the kept value's size (`by-size`) and one by the lookup (`by-lookup`) serve all three.
-use mathlib.Core.Path.{_≡_, refl, ap, subst}
+use mathlib.Core.Path.{_≡_, refl, sym, ap, _∙_, subst}
 use mathlib.Core.Bool.{Bool, true, false, cond}
 use mathlib.Core.List.{List, [], _∷_}
 use mathlib.Core.Option.{Option, none, some}
@@ -11,14 +11,16 @@ use lib.IntN.{ℤ}
 use lib.Ieee.{Float}
 use lib.Ieee.Scale.{finite}
 use Rattle.refusal.specs.Outcome.{Outcome, accepted, refused, ground, outcome}
+use Rattle.refusal.proofs.Outcomes.{accepted≢refused, accepted-not, accepted-value}
 use Rattle.record.specs.Sound.{sound, soundRecord}
 use Rattle.record.specs.Section.{Section, kept, meaning, sections, find}
 use Rattle.finish.specs.Sum.{nearestDouble, tooLarge}
 use Rattle.finish.specs.Figure.{beyond}
-use Rattle.finish.specs.Finish.{sumOf, figureFor, figureOf, lineFor, lineOf, finishing, sumOutcome}
+use Rattle.finish.specs.Finish.{sumOf, figureFor, figureOf, lineFor, lineOf, finishing, sumOutcome, lineOutcome}
 use Rattle.finish.specs.Answer.{sumAnswer}
 use Rattle.finish.specs.Steps.{LookedUp, sumFor, FiniteSum, figureBy, lineBy}
 use Rattle.record.specs.declared.Record.{Record}
+use Rattle.finish.specs.declared.FinishedLine.{FinishedLine}
 use Rattle.finish.specs.declared.Lookup.{Lookup}
 use Rattle.finish.specs.declared.Lookup.the-variants.{Found, Missing, Unsound}
 use Rattle.finish.specs.declared.SectionSum.{SectionSum}
@@ -54,20 +56,55 @@ figure-by s = by-size (kept s) (λ (b : Bool). cond b (refused 14) (outcome (gro
 pub line-by : (s : Section) → lineOf (some s) ≡ lineBy (s .key) (s .count) (sumOf (some s))
 line-by s = by-size (kept s) (λ (b : Bool). cond b (refused 14) (outcome (ground 15 (beyond (figureFor s)) ∷ []) (lineFor s)) ≡ lineBy (s .key) (s .count) (sumBy s b)) refl (λ f. refl)
 
+-- ---- what an accepted sum and an accepted line say
+
+pub record SumGiven (s : Section) (x : Float) : Type 0 where
+  pub is : nearestDouble (kept s) ≡ x
+  pub small : tooLarge (kept s) ≡ false
+  pub finite-sum : T (finite x)
+
+pub sum-given : (s : Section) (x : Float) → sumOf (some s) ≡ accepted x → SumGiven s x
+sum-given s x e =
+    let gs = ground 14 (tooLarge (kept s)) ∷ [] in
+    let q = accepted-value gs (nearestDouble (kept s)) e in
+    let l = accepted-not 14 gs (nearestDouble (kept s)) e in
+    record { is = q; small = l; finite-sum = rw (← q) (nearest-finite (kept s) l) }
+
+pub record LineGiven (s : Section) (l : FinishedLine) : Type 0 where
+  pub is : lineFor s ≡ l
+  pub small : tooLarge (kept s) ≡ false
+  pub within : beyond (figureFor s) ≡ false
+  pub finite-sum : T (finite (l .sum))
+
+pub line-given : (s : Section) (l : FinishedLine) → lineOf (some s) ≡ accepted l → LineGiven s l
+line-given s l e =
+    let gs = ground 14 (tooLarge (kept s)) ∷ ground 15 (beyond (figureFor s)) ∷ [] in
+    let q = accepted-value gs (lineFor s) e in
+    let small = accepted-not 14 gs (lineFor s) e in
+    record { is = q; small = small; within = accepted-not 15 gs (lineFor s) e; finite-sum = rw (← q) (nearest-finite (kept s) small) }
+
 -- ---- on a table
+
+-- an answer that is accepted is that of a section that is there
+pub section-given : {A : Type 0} (f : Option Section → Outcome A) (s : List ℕ) (g k : ℕ) (x : A) → f none ≡ refused 13
+    → accepted x ≡ finishing f s g k → (t : Section) × (f (some t) ≡ accepted x)
+section-given {A} f s g k x n e = by (sound s g) (find k (sections s g)) e
+  where
+    by : (b : Bool) (o : Option Section) → accepted x ≡ cond b (f o) (refused 7) → (t : Section) × (f (some t) ≡ accepted x)
+    by true (some t) q = (t, sym q)
+    by true none q = absurd (accepted≢refused (sym (q ∙ n)))
+    by false o q = absurd (accepted≢refused (sym q))
 
 -- a float that a sum gives is finite
 pub finite-outcome : (a : SectionSum) (s : List ℕ) (g k : ℕ) → sumAnswer a ≡ sumOutcome s g k → FiniteSum a
 finite-outcome Absent s g k e = tt
 finite-outcome TooLarge s g k e = tt
 finite-outcome NotSound s g k e = tt
-finite-outcome (Finite x) s g k e = by (sound s g) (find k (sections s g)) e
-  where
-    by : (b : Bool) (o : Option Section) → accepted x ≡ cond b (sumOf o) (refused 7) → T (finite x)
-    by false o e = never (cc)
-    by true none e = never (cc)
-    by true (some s) e =
-        by-size (kept s) (λ (b : Bool). accepted x ≡ sumBy s b → T (finite x)) (λ e. never (cc)) (λ f e. let q : x ≡ nearestDouble (kept s) = cc in rw q f) e
+finite-outcome (Finite x) s g k e = let t = section-given sumOf s g k x refl e in sum-given (t .0) x (t .1) .finite-sum
+
+-- and so is the sum of a line
+pub finite-line : (l : FinishedLine) (s : List ℕ) (g k : ℕ) → accepted l ≡ lineOutcome s g k → T (finite (l .sum))
+finite-line l s g k e = let t = section-given lineOf s g k l refl e in line-given (t .0) l (t .1) .finite-sum
 
 -- ---- the line of a figure
 

@@ -5,8 +5,7 @@ use mathlib.Core.List.{List, [], _∷_, _++_}
 use native.Mathlib.Nat.{mod-eq-of-lt, pow-suc}
 use native.Mathlib.Omega.{arith}
 use native.Mathlib.Numerals.{add-one}
-use mathlib.Core.Logic.{⊎-elim}
-use Rattle.limbs.proofs.Nearest.{le-or-lt}
+use native.Mathlib.Decide.{decLe}
 use borrow.Author.Tests.{lt-ltb, le-ltb, ltb-false}
 use mathlib.Core.Bool.{Bool, true, false, cond}
 use lib.Dec.{ltb}
@@ -55,7 +54,10 @@ length-more n h = ap length (decimal-more n h) ∙ length-append (decimal (n / 1
 pub short : (k n : ℕ) → n < 10 ^ suc k → length (decimal n) ≤ suc k
 short zero n h = omega (arith, length-one n h)
 short (suc k) n h =
-    ⊎-elim (λ l. omega (arith, length-more n l, short k (n / 10) (shorter l))) (λ l. omega (arith, length-one n l)) (le-or-lt 10 n)
+    elim (decLe 10 n) [
+      | yes l ↦ omega (arith, length-more n l, short k (n / 10) (shorter l))
+      | no l ↦ omega (arith, length-one n (omega arith))
+    ]
   where
     shorter : 10 ≤ n → n / 10 < 10 ^ suc k
     shorter l = let e : n < 10 ^ suc k * 10 = rw pow-suc at h in omega arith
@@ -65,13 +67,17 @@ last-in : (k n : ℕ) → n < k → digits 10 (length (decimal n)) n ≡ decimal
 unfolding digits
 last-in zero n h = absurd (omega arith)
 last-in (suc k) n h =
-    ⊎-elim (λ l. more l (last-in k (n / 10) (omega arith))) one (le-or-lt 10 n)
+    go (decLe 10 n) (last-in k (n / 10))
   where
     one : n < 10 → digits 10 (length (decimal n)) n ≡ decimal n
     one l = rw (decimal-one n l, mod-eq-of-lt l)
 
     more : 10 ≤ n → digits 10 (length (decimal (n / 10))) (n / 10) ≡ decimal (n / 10) → digits 10 (length (decimal n)) n ≡ decimal n
     more l e = rw (length-more n l, decimal-more n l, add-one) (ap (λ (d : List ℕ). d ++ digit (n % 10) ∷ []) e)
+
+    go : Dec (10 ≤ n) → (n / 10 < k → digits 10 (length (decimal (n / 10))) (n / 10) ≡ decimal (n / 10)) → digits 10 (length (decimal n)) n ≡ decimal n
+    go (yes l) ih = more l (ih (omega arith))
+    go (no l) ih = one (omega arith)
 
 pub last-decimal : (n : ℕ) → digits 10 (length (decimal n)) n ≡ decimal n
 last-decimal n = last-in (suc n) n (omega arith)

@@ -22,8 +22,7 @@ use Rattle.finish.specs.Sum.{tooLarge, nearestDouble}
 use Rattle.finish.specs.Figure.{beyond}
 use Rattle.finish.specs.Finish.{sumOf, figureFor, lineOf, lineFor}
 use Rattle.finish.specs.declared.FinishedLine.{FinishedLine}
-use Rattle.finish.proofs.Outcomes.{never}
-use Rattle.finish.proofs.Sums.{nearest-finite}
+use Rattle.finish.proofs.Outcomes.{never, line-given}
 use Rattle.report.specs.Text.{lastFields, lineWith, lineText}
 
 -- ---- the line of a section
@@ -33,13 +32,9 @@ Written s l = T (finite (l .sum)) × (lineWith (l .key) (l .count) (lastFields (
 
 pub finished : (s : Section) (l : FinishedLine) → accepted l ≡ lineOf (some s) → Written s l
 unfolding lineText
-finished s l e = by (tooLarge (kept s)) (beyond (figureFor s)) refl refl e
-  where
-    by : (a b : Bool) → tooLarge (kept s) ≡ a → beyond (figureFor s) ≡ b
-        → accepted l ≡ cond a (refused 14) (cond b (refused 15) (accepted (lineFor s))) → Written s l
-    by true b p q e = never (cc)
-    by false true p q e = never (cc)
-    by false false p q e = let f : l ≡ lineFor s = cc in rw f (nearest-finite (kept s) p, rw (p, q))
+finished s l e =
+    let g = line-given s l (sym e) in
+    (g .finite-sum, rw (← g .is, g .small, g .within))
 
 pub unfinished : (s : Section) (n : ℕ) → refused n ≡ lineOf (some s)
     → lineWith (s .key) (s .count) (lastFields (sumOf (some s)) (refused 15)) ≡ lineText s

@@ -7,7 +7,8 @@ use Rattle.finish.specs.Answer.{lineAnswer}
 use Rattle.finish.specs.declared.FinishedLine.{FinishedLine}
 use Rattle.finish.proofs.Fraction.{number}
 use Rattle.exports.specs.Calls.{returnsZero, writes, doubleBits}
-use Rattle.exports.proofs.Answers.{refusing, widens, widened, line-sum-finite}
+use Rattle.finish.proofs.Outcomes.{finite-line}
+use Rattle.exports.proofs.Answers.{refusing, widens, widened}
 use borrow.Author.Needs.{needs}
 use Rattle.exports.proofs.girth_line.Statement.{statement}
 use Rattle.exports.proofs.girth_line.Tie as tie
@@ -22,7 +23,7 @@ cast-count : tie.Need-cast-count
 cast-count c = search needs
 
 float-to-bits-bits : tie.Need-float-to-bits-bits
-float-to-bits-bits c = let s = c .before .before .before .before .before .before .before .args in let l = c .before .before .before .l .given in let r = c .before .before .before .before .before .line in number (l .0 .0 .sum) (line-sum-finite (l .0 .0) (s .table .now) (s .g) (s .key) (ap lineAnswer (sym (l .1)) ∙ r .ensures))
+float-to-bits-bits c = let s = c .before .before .before .before .before .before .before .args in let l = c .before .before .before .l .given in let r = c .before .before .before .before .before .line in number (l .0 .0 .sum) (finite-line (l .0 .0) (s .table .now) (s .g) (s .key) (ap lineAnswer (sym (l .1)) ∙ r .ensures))
 
 cast-figure : tie.Need-cast-figure
 cast-figure c = let z = c .before .before .before .before .before .l .given .0 .0 .figure in let f : SFits w32 z = search needs in widens z f
