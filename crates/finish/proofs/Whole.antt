@@ -18,11 +18,11 @@ use Rattle.level.proofs.Signs.{natAbs-signed}
 use Rattle.level.specs.Double.{signed}
 use Rattle.level.specs.Level.{unit}
 use Rattle.level.specs.Carry.{totalOf, InRange}
-use Rattle.level.specs.declared.Held.{Held}
+use Rattle.level.specs.declared.SplitTotal.{SplitTotal}
 use Rattle.record.specs.declared.Record.{Record}
 use Rattle.record.specs.Sound.{soundRecord}
 use Rattle.record.specs.Section.{kept, meaning}
-use Rattle.record.proofs.Parts.{empty-total, sound-record-parts, held-range}
+use Rattle.record.proofs.Parts.{empty-total, sound-record-parts, total-range}
 use Rattle.limbs.specs.Limbs.{Distance}
 use Rattle.finish.specs.Raised.{carryRaise, carryUnit, totalRaise, raisedCarry, raisedTotal}
 
@@ -81,7 +81,7 @@ carry-back c h = back c (omega arith)
 total-of : (n s : ℕ) → (n ⊝ carryRaise) *ℤ pos (carryUnit) +ℤ pos s ≡ (s + carryUnit * n) ⊝ totalRaise
 total-of n s = simp ints (omega arith)
 
-total-is : (h : Held) → InRange h → totalOf h ≡ raisedTotal h ⊝ totalRaise
+total-is : (h : SplitTotal) → InRange h → totalOf h ≡ raisedTotal h ⊝ totalRaise
 total-is h r = ap (λ (c : ℤ). c *ℤ pos (carryUnit) +ℤ pos (h .residue)) (carry-is (h .carry) (r .1)) ∙ total-of (raisedCarry (h .carry)) (h .residue)
 
 stacked-is : (a b x y z : ℕ) → (z ⊝ b) +ℤ pos a *ℤ (y ⊝ b) +ℤ pos (a * a) *ℤ (x ⊝ b) ≡ (z + a * y + a * a * x) ⊝ (b + a * b + a * a * b)
@@ -123,7 +123,7 @@ kept-size r v P Q s l h p q d =
     let y = r .middle in
     let z = r .low in
     let whole : stacked (totalOf x) (totalOf y) (totalOf z) ≡ signed s v =
-    rw (total-is x (held-range (r .count) x (g .high) l), total-is y (held-range (r .count) y (g .middle) l), total-is z (held-range (r .count) z (g .low) l))
+    rw (total-is x (total-range (r .count) x (g .high) l), total-is y (total-range (r .count) y (g .middle) l), total-is z (total-range (r .count) z (g .low) l))
     (stacked-is (2 ^ 40) totalRaise (raisedTotal x) (raisedTotal y) (raisedTotal z) ∙ ap₂ _⊝_ (sym p) (sym q) ∙ distance-is s v P Q d) in
     let up : kept (meaning r) *ℤ pos (2 ^ 80) ≡ signed s (v * unit (r .top)) =
     kept-up (r .top) (totalOf x) (totalOf y) (totalOf z) (λ o. empty-total y (g .second o)) (λ o. empty-total z (g .third o))

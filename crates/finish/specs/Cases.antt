@@ -13,7 +13,7 @@ use Rattle.codec.specs.Bytes.{bytes, number, numberAt}
 use Rattle.codec.specs.Cells.{cells, image}
 use Rattle.record.specs.Layout.{encode, decode}
 use Rattle.record.specs.Keys.{rising}
-use Rattle.record.specs.Sound.{sound, soundRecords, soundRecord, soundHeld, isZero}
+use Rattle.record.specs.Sound.{sound, soundRecords, soundRecord, soundTotal, isZero}
 use Rattle.record.specs.Section.{Section, sectionAt, kept, sectionBytes, find}
 use Rattle.finish.specs.Sum.{nearestDouble, limit, tooLarge}
 use Rattle.finish.specs.Figure.{millFigure, beyond}
@@ -112,5 +112,5 @@ lines = lineOutcome table 1 7 ∷ lineOutcome table 1 8 ∷ lineOutcome table 2 
 
 -- and what document 01 says
 lines-right : lines ≡ accepted (record { key = 7; count = 1; sum = ofBits binary64 0x3FF8000000000000; figure = pos 150 }) ∷ refused 13 ∷ refused 7 ∷ refused 13 ∷ refused 7 ∷ []
-unfolding table lines find kept nearestDouble tooLarge millFigure beyond round ofBits sound soundRecords soundRecord soundHeld isZero rising cells image decode encode bytes numberAt number
+unfolding table lines find kept nearestDouble tooLarge millFigure beyond round ofBits sound soundRecords soundRecord soundTotal isZero rising cells image decode encode bytes numberAt number
 lines-right = refl

@@ -3,7 +3,7 @@ use Prim.Native.Nat.{ℕ, _+_, _*_, _^_}
 use mathlib.Core.Path.{_≡_}
 use mathlib.Core.List.{List}
 use lib.IntN.{ℤ, pos, natAbs, _+ℤ_}
-use Rattle.level.specs.declared.Held.{Held}
+use Rattle.level.specs.declared.SplitTotal.{SplitTotal}
 use Rattle.limbs.specs.Limbs.{valueOf, Normal}
 
 -- what a carry is raised by
@@ -23,7 +23,7 @@ abbrev pub raisedCarry : ℤ → ℕ
 raisedCarry c = natAbs (c +ℤ pos carryRaise)
 
 -- a raised total: its residue and that carry
-abbrev pub raisedTotal : Held → ℕ
+abbrev pub raisedTotal : SplitTotal → ℕ
 raisedTotal h = h .residue + carryUnit * raisedCarry (h .carry)
 
 -- r holds three numbers, each one limb above the next

@@ -1,5 +1,5 @@
 // Finishing a section: the double nearest to its kept value, and the mill figure of that double.
-use level::Held;
+use level::SplitTotal;
 use record::Place;
 use record::Record;
 use refusal::Refusal;
@@ -59,7 +59,7 @@ fn raised_carry(c: i64) -> u64
 }
 
 // What of a raised total stands above its 40 low digits.
-fn high_digits(h: Held) -> u64
+fn high_digits(h: SplitTotal) -> u64
     requires { ⌜ InRange h ⌝ }
     ensures { λ r. ⌜ (r < 2 ^ 34) × (h .residue % 2 ^ 40 + 2 ^ 40 * r ≡ raisedTotal h) ⌝ }
 {
@@ -67,7 +67,7 @@ fn high_digits(h: Held) -> u64
 }
 
 // The three raised totals in limbs, each one limb above the next.
-fn raised_limbs(high: Held, middle: Held, low: Held) -> [u64; 4]
+fn raised_limbs(high: SplitTotal, middle: SplitTotal, low: SplitTotal) -> [u64; 4]
     requires { ⌜ InRange high ⌝ }
     requires { ⌜ InRange middle ⌝ }
     requires { ⌜ InRange low ⌝ }

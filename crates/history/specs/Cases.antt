@@ -16,7 +16,7 @@ use lib.Ieee.{binary64, ofBits, round}
 use lib.IntN.{pos}
 use Rattle.record.specs.Layout.{encode, decode}
 use Rattle.record.specs.Keys.{rising}
-use Rattle.record.specs.Sound.{soundHeld, isZero, soundRecord, soundRecords, sound}
+use Rattle.record.specs.Sound.{soundTotal, isZero, soundRecord, soundRecords, sound}
 use Rattle.table.specs.Combine.{ofRow, levelOf, combine, absorb, merged, added}
 use Rattle.table.specs.Calls.{addGrounds, columnGrounds, mergeGrounds}
 use Rattle.lists.specs.Lists.{anyOf}
@@ -48,7 +48,7 @@ rows = record { key = 7; bits = 0x3FF0000000000000 } ∷ record { key = 3; bits 
 
 -- what a list of calls leaves in table 0
 left : List Call → Store
-unfolding stateAfter step answers answer askTable addGrounds columnGrounds mergeGrounds sound rising cells soundRecords soundRecord soundHeld isZero columnsFit image bytes anyOf rowsOf rowsFrom number numberAt added merged absorb combine levelOf ofRow top topFrom given contribution encode decode
+unfolding stateAfter step answers answer askTable addGrounds columnGrounds mergeGrounds sound rising cells soundRecords soundRecord soundTotal isZero columnsFit image bytes anyOf rowsOf rowsFrom number numberAt added merged absorb combine levelOf ofRow top topFrom given contribution encode decode
 left cs = stateAfter start cs .tables 0
 
 -- the same rows in one add, in another order, in two adds, merged from another table, merged the other way round, and with a refused add between

@@ -4,7 +4,7 @@ use mathlib.Core.List.{List, [], _∷_, map}
 use Prim.Native.Nat.{ℕ, _^_}
 use lib.IntN.{ℤ, pos, negsuc, negℤ}
 use Rattle.level.specs.Level.{top, contribution}
-use Rattle.level.specs.Carry.{heldOf}
+use Rattle.level.specs.Carry.{splitOf}
 use Rattle.level.specs.Contributions.{contributionsOf}
 use Rattle.level.specs.declared.Contributions.{Contributions}
 
@@ -32,6 +32,6 @@ unfolding rows figures top contribution
 bench = refl
 
 -- B2: the kept form of what the row -1 gives to its top
-minus-one : heldOf (contribution 0xBFF0000000000000 26) ≡ record { residue = 1125882726973440; carry = negsuc 0 }
+minus-one : splitOf (contribution 0xBFF0000000000000 26) ≡ record { residue = 1125882726973440; carry = negsuc 0 }
 unfolding contribution
 minus-one = refl

@@ -11,10 +11,14 @@ use Rattle.level.specs.Double.{size, value}
 abbrev pub unit : ℕ → ℕ
 unit j = 2 ^ (40 * j)
 
+-- how many units of its top a row's size stays below, and the largest size of a contribution
+abbrev pub levelBound : ℕ
+levelBound = 2 ^ 39
+
 -- the smallest of the levels j, j + 1, .., j + k with n below 2^39 of its units; j + k if no earlier one has
 unfoldable pub topFrom : ℕ → ℕ → ℕ → ℕ
 topFrom zero j n = j
-topFrom (suc k) j n = let later = topFrom k (suc j) n in cond (ltb n (2 ^ 39 * unit j)) j later
+topFrom (suc k) j n = let later = topFrom k (suc j) n in cond (ltb n (levelBound * unit j)) j later
 
 -- the top of a row
 unfoldable pub top : ℕ → ℕ

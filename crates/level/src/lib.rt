@@ -6,7 +6,7 @@ ghost use lib.Ieee.Nearest.{closest};
 ghost use Rattle.level.specs.Double.{field, fraction, finite, significand, negative, signed};
 ghost use Rattle.level.specs.Level.{top};
 ghost use Rattle.level.specs.Cut.{shiftOf, restOf, roundedUp, flippedIf};
-ghost use Rattle.level.specs.Carry.{carryOf, residueOf, heldOf, totalOf};
+ghost use Rattle.level.specs.Carry.{carryOf, residueOf, splitOf, totalOf};
 ghost use Rattle.level.specs.Contributions.{contributionsOf};
 
 // The exponent field of a double's bits.
@@ -210,7 +210,7 @@ pub fn contributions_of(bits: u64) -> Contributions
 }
 
 // A total as it is kept: carry × 2^50 + residue.
-pub struct Held {
+pub struct SplitTotal {
     pub residue: u64,
     pub carry: i64,
 }
@@ -229,10 +229,10 @@ fn carry_of(total: i64) -> i64
     total >> 50
 }
 
-pub fn hold(total: i64) -> Held
-    ensures { λ r. ⌜ r ≡ heldOf total ⌝ }
+pub fn split(total: i64) -> SplitTotal
+    ensures { λ r. ⌜ r ≡ splitOf total ⌝ }
 {
-    Held {
+    SplitTotal {
         residue: residue_of(total),
         carry: carry_of(total),
     }
@@ -247,13 +247,13 @@ pub fn plus(x: i64, y: i64) -> i64
 }
 
 // Two totals added.
-pub fn add_held(a: Held, b: Held) -> Held
+pub fn add_totals(a: SplitTotal, b: SplitTotal) -> SplitTotal
     requires { ⌜ (a .residue < 2 ^ 50) × (b .residue < 2 ^ 50) × (natAbs (a .carry) < 2 ^ 61) × (natAbs (b .carry) < 2 ^ 61) ⌝ }
-    ensures { λ r. ⌜ r ≡ heldOf (totalOf a +ℤ totalOf b) ⌝ }
+    ensures { λ r. ⌜ r ≡ splitOf (totalOf a +ℤ totalOf b) ⌝ }
 {
     let sum = a.residue + b.residue;
     let carried = with_sign(false, sum >> 50);
-    Held {
+    SplitTotal {
         residue: last_digits(sum, 50),
         carry: plus(plus(a.carry, b.carry), carried),
     }

@@ -6,16 +6,16 @@ use lib.IntN.{pos}
 use lib.ListN.{replicate}
 use Rattle.codec.specs.Bytes.{number, bytes, numberAt}
 use Rattle.codec.specs.Cells.{cells, image}
-use Rattle.level.specs.declared.Held.{Held}
+use Rattle.level.specs.declared.SplitTotal.{SplitTotal}
 use Rattle.record.specs.Layout.{decode, encode}
 use Rattle.record.specs.Keys.{rising}
-use Rattle.record.specs.Sound.{soundHeld, isZero, soundRecord, soundRecords, sound}
+use Rattle.record.specs.Sound.{soundTotal, isZero, soundRecord, soundRecords, sound}
 use Rattle.refusal.specs.Outcome.{accepted, refused}
 use Rattle.table.specs.Combine.{levelOf, combine, absorb, merged}
 use Rattle.table.specs.Calls.{mergeGrounds, mergeOutcome, mergeLeaves}
 use Rattle.lists.specs.Lists.{anyOf}
 
-abbrev nothing : Held
+abbrev nothing : SplitTotal
 nothing = record { residue = 0; carry = pos 0 }
 
 -- a table of one record: its rows are n zeros
@@ -24,29 +24,29 @@ zeros k n = encode (record { key = k; count = n; top = 0; zero = 0; high = nothi
 
 -- keys 1 and 2 in a 64-byte table, and in one of 128 bytes
 no-room : mergeOutcome (zeros 1 1) 1 (zeros 2 1) 1 ≡ refused 12
-unfolding mergeGrounds merged absorb combine levelOf anyOf sound soundRecords soundRecord soundHeld isZero rising cells decode encode bytes numberAt number
+unfolding mergeGrounds merged absorb combine levelOf anyOf sound soundRecords soundRecord soundTotal isZero rising cells decode encode bytes numberAt number
 no-room = refl
 
 room : mergeOutcome (zeros 1 1 ++ replicate 64 255) 1 (zeros 2 1) 1 ≡ accepted 2
-unfolding mergeGrounds merged absorb combine levelOf anyOf sound soundRecords soundRecord soundHeld isZero rising cells decode encode bytes numberAt number
+unfolding mergeGrounds merged absorb combine levelOf anyOf sound soundRecords soundRecord soundTotal isZero rising cells decode encode bytes numberAt number
 room = refl
 
 -- keys stand in rising order, whichever table they come from; the bytes after them stay
 in-order : mergeLeaves (zeros 2 1 ++ replicate 65 255) 1 (zeros 1 1) 1 ≡ zeros 1 1 ++ zeros 2 1 ++ replicate 1 255
-unfolding mergeGrounds merged absorb combine levelOf anyOf sound soundRecords soundRecord soundHeld isZero rising cells image decode encode bytes numberAt number
+unfolding mergeGrounds merged absorb combine levelOf anyOf sound soundRecords soundRecord soundTotal isZero rising cells image decode encode bytes numberAt number
 in-order = refl
 
 -- an equal key: the counts are added
 added : mergeLeaves (zeros 7 3) 1 (zeros 7 4) 1 ≡ zeros 7 7
-unfolding mergeGrounds merged absorb combine levelOf anyOf sound soundRecords soundRecord soundHeld isZero rising cells image decode encode bytes numberAt number
+unfolding mergeGrounds merged absorb combine levelOf anyOf sound soundRecords soundRecord soundTotal isZero rising cells image decode encode bytes numberAt number
 added = refl
 
 -- one row onto a sound record at that count
 too-many : mergeOutcome (zeros 7 4294967295) 1 (zeros 7 1) 1 ≡ refused 11
-unfolding mergeGrounds merged absorb combine levelOf anyOf sound soundRecords soundRecord soundHeld isZero rising cells decode encode bytes numberAt number
+unfolding mergeGrounds merged absorb combine levelOf anyOf sound soundRecords soundRecord soundTotal isZero rising cells decode encode bytes numberAt number
 too-many = refl
 
 -- g = 1 and an empty buffer, as either table
 not-sound : (mergeOutcome [] 1 (zeros 2 1) 1 ≡ refused 7) × (mergeOutcome (zeros 1 1) 1 [] 1 ≡ refused 7)
-unfolding mergeGrounds merged absorb combine levelOf anyOf sound soundRecords soundRecord soundHeld isZero rising cells decode encode bytes numberAt number
+unfolding mergeGrounds merged absorb combine levelOf anyOf sound soundRecords soundRecord soundTotal isZero rising cells decode encode bytes numberAt number
 not-sound = (refl, refl)

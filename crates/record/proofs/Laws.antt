@@ -17,9 +17,9 @@ use mir.ValLaws.{toZ-ofZ, ofZ-toZ, ofZ-fits}
 use Rattle.codec.specs.Bytes.{bytes, numberAt}
 use Rattle.codec.proofs.Laws.{length-bytes, sets-then, numberAt-take, numberAt-drop, numberAt-left, numberAt-right, numberAt-bytes, sets-swap, AreBytes, drop-bytes, numberAt-lt, bytes-numberAt}
 use Rattle.codec.proofs.Cells.{getD-cells, cells-sets, map-cells, length-cells, cells-insert}
-use Rattle.level.specs.declared.Held.{Held}
+use Rattle.level.specs.declared.SplitTotal.{SplitTotal}
 use Rattle.record.specs.declared.Record.{Record}
-use Rattle.record.specs.Layout.{heldAt, recordAt, encodeHeld, encode, decode, records}
+use Rattle.record.specs.Layout.{totalAt, recordAt, encodeTotal, encode, decode, records}
 use Rattle.record.specs.Keys.{keys}
 
 pub length-encode : (r : Record) → length (encode r) ≡ 64
@@ -29,7 +29,7 @@ length-encode r = simp (length-append, length-bytes)
 -- the seven stores of a record are one
 pub stored : (s : List ℕ) (at : ℕ) (r : Record) {a b c d e f g : List ℕ}
     → a ≡ sets s at (bytes 4 (r .key)) → b ≡ sets a (at + 4) (bytes 4 (r .count)) → c ≡ sets b (at + 8) (bytes 4 (r .top)) → d ≡ sets c (at + 12) (bytes 4 (r .zero))
-    → e ≡ sets d (at + 16) (encodeHeld (r .high)) → f ≡ sets e (at + 32) (encodeHeld (r .middle)) → g ≡ sets f (at + 48) (encodeHeld (r .low))
+    → e ≡ sets d (at + 16) (encodeTotal (r .high)) → f ≡ sets e (at + 32) (encodeTotal (r .middle)) → g ≡ sets f (at + 48) (encodeTotal (r .low))
     → g ≡ sets s at (encode r)
 unfolding encode
 stored s at r p q u v x y z =
@@ -37,14 +37,14 @@ stored s at r p q u v x y z =
     let k2 = k1 ++ bytes 4 (r .count) in
     let k3 = k2 ++ bytes 4 (r .top) in
     let k4 = k3 ++ bytes 4 (r .zero) in
-    let k5 = k4 ++ encodeHeld (r .high) in
-    let k6 = k5 ++ encodeHeld (r .middle) in
+    let k5 = k4 ++ encodeTotal (r .high) in
+    let k6 = k5 ++ encodeTotal (r .middle) in
     let q2 = sets-then s at 4 k1 (bytes 4 (r .count)) p (length-bytes 4 (r .key)) q in
     let q3 = sets-then s at 8 k2 (bytes 4 (r .top)) q2 (simp (length-append, length-bytes)) u in
     let q4 = sets-then s at 12 k3 (bytes 4 (r .zero)) q3 (simp (length-append, length-bytes)) v in
-    let q5 = sets-then s at 16 k4 (encodeHeld (r .high)) q4 (simp (length-append, length-bytes)) x in
-    let q6 = sets-then s at 32 k5 (encodeHeld (r .middle)) q5 (simp (length-append, length-bytes)) y in
-    sets-then s at 48 k6 (encodeHeld (r .low)) q6 (simp (length-append, length-bytes)) z
+    let q5 = sets-then s at 16 k4 (encodeTotal (r .high)) q4 (simp (length-append, length-bytes)) x in
+    let q6 = sets-then s at 32 k5 (encodeTotal (r .middle)) q5 (simp (length-append, length-bytes)) y in
+    sets-then s at 48 k6 (encodeTotal (r .low)) q6 (simp (length-append, length-bytes)) z
 
 -- a record of a part is a record of the whole
 pub decode-part : (s : List ℕ) (a : ℕ) → a + 64 ≤ length s → decode (take 64 (drop a s)) ≡ recordAt s a
@@ -54,7 +54,7 @@ decode-part s a h =
     simp (numberAt-take, numberAt-drop, add-zero, add-assoc)
 
 -- every field is in the range of its type
-pub record HeldInRange (t : Held) : Type 0 where
+pub record TotalInRange (t : SplitTotal) : Type 0 where
   pub residue : t .residue < 2 ^ 64
   pub carry : SFits w64 (t .carry)
 
@@ -63,9 +63,9 @@ pub record InRange (r : Record) : Type 0 where
   pub count : r .count < 2 ^ 32
   pub top : r .top < 2 ^ 32
   pub zero : r .zero < 2 ^ 32
-  pub high : HeldInRange (r .high)
-  pub middle : HeldInRange (r .middle)
-  pub low : HeldInRange (r .low)
+  pub high : TotalInRange (r .high)
+  pub middle : TotalInRange (r .middle)
+  pub low : TotalInRange (r .low)
 
 carry-back : (z : ℤ) → SFits w64 z → toZ w64 (numberAt 8 (bytes 8 (ofZ w64 z)) 0) ≡ z
 carry-back z f = ap (toZ w64) (numberAt-bytes 8 (ofZ w64 z) (ofZ-fits w64 z f .fits)) ∙ toZ-ofZ w64 z f
@@ -116,7 +116,7 @@ module _ (b : List ℕ) (h : AreBytes b) where
   carry-bytes : (a : ℕ) → a + 8 ≤ length b → bytes 8 (ofZ w64 (toZ w64 (numberAt 8 b a))) ≡ take 8 (drop a b)
   carry-bytes a l = ap (bytes 8) (ofZ-toZ w64 (numberAt 8 b a) (record { fits = numberAt-lt 8 a b h })) ∙ bytes-numberAt 8 a b l h
 
-total-bytes : (b : List ℕ) (h : AreBytes b) (a : ℕ) → a + 16 ≤ length b → encodeHeld (heldAt b a) ≡ take 16 (drop a b)
+total-bytes : (b : List ℕ) (h : AreBytes b) (a : ℕ) → a + 16 ≤ length b → encodeTotal (totalAt b a) ≡ take 16 (drop a b)
 total-bytes b h a l =
     join (drop a b) (drop-bytes a b h) 8 8 (bytes-numberAt 8 a b (omega arith) h)
     (carry-bytes b h (a + 8) (omega arith) ∙ ap (take 8) (sym (drop-drop 8 a b)))

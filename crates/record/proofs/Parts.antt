@@ -8,36 +8,36 @@ use lib.Ieee.Fits.{and-l, and-r}
 use lib.IntN.{ℤ, pos, natAbs, _+ℤ_, _*ℤ_}
 use Rattle.integers.proofs.Diff.{ints, byParts}
 use Rattle.integers.proofs.Laws.{size-zero}
-use Rattle.level.specs.declared.Held.{Held}
+use Rattle.level.specs.declared.SplitTotal.{SplitTotal}
 use Rattle.level.specs.Carry.{totalOf, InRange}
 use Rattle.record.specs.declared.Record.{Record}
-use Rattle.record.specs.Sound.{soundHeld, soundRecord, isZero}
+use Rattle.record.specs.Sound.{soundTotal, soundRecord, isZero}
 
 -- a level that holds 0
-abbrev pub Empty : Held → Type 0
+abbrev pub Empty : SplitTotal → Type 0
 Empty h = (h .residue ≡ 0) × (h .carry ≡ pos 0)
 
-pub empty-total : (h : Held) → Empty h → totalOf h ≡ pos 0
+pub empty-total : (h : SplitTotal) → Empty h → totalOf h ≡ pos 0
 empty-total h e = rw (e .0, e .1)
 
 pub record SoundParts (r : Record) : Type 0 where
   pub count : 1 ≤ r .count
   pub top : r .top ≤ 52
   pub zero : r .zero ≡ 0
-  pub high : T (soundHeld (r .count) (r .high))
-  pub middle : T (soundHeld (r .count) (r .middle))
-  pub low : T (soundHeld (r .count) (r .low))
+  pub high : T (soundTotal (r .count) (r .high))
+  pub middle : T (soundTotal (r .count) (r .middle))
+  pub low : T (soundTotal (r .count) (r .low))
   pub second : r .top < 1 → Empty (r .middle)
   pub third : r .top < 2 → Empty (r .low)
 
-zero-empty : (h : Held) → T (isZero h) → Empty h
+zero-empty : (h : SplitTotal) → T (isZero h) → Empty h
 unfolding isZero
 zero-empty h t =
     let a = eqb (h .residue) 0 in
     let b = eqb (natAbs (h .carry)) 0 in
     (eqb→eq (h .residue) 0 (and-l a b t), size-zero (h .carry) (eqb→eq (natAbs (h .carry)) 0 (and-r a b t)))
 
-below-empty : (j t : ℕ) (h : Held) → T (leb j t || isZero h) → t < j → Empty h
+below-empty : (j t : ℕ) (h : SplitTotal) → T (leb j t || isZero h) → t < j → Empty h
 below-empty j t h = by (leb j t) (leb→le j t)
   where
     by : (b : Bool) → (T b → j ≤ t) → T (b || isZero h) → t < j → Empty h
@@ -50,9 +50,9 @@ sound-record-parts r h =
     let a = leb 1 (r .count) in
     let b = leb (r .top) 52 in
     let c = eqb (r .zero) 0 in
-    let d = soundHeld (r .count) (r .high) in
-    let e = soundHeld (r .count) (r .middle) in
-    let f = soundHeld (r .count) (r .low) in
+    let d = soundTotal (r .count) (r .high) in
+    let e = soundTotal (r .count) (r .middle) in
+    let f = soundTotal (r .count) (r .low) in
     let g = leb 1 (r .top) || isZero (r .middle) in
     let k = leb 2 (r .top) || isZero (r .low) in
     let h7 = and-l (a && b && c && d && e && f && g) k h in
@@ -76,17 +76,17 @@ sound-record-parts r h =
 carry-small : (s : ℕ) (z : ℤ) → natAbs z * 2 ^ 50 ≤ natAbs (z *ℤ pos (2 ^ 50) +ℤ pos s) + s
 carry-small s = byParts _ (λ a b. simp ints (omega arith))
 
-module _ (n : ℕ) (h : Held) (t : T (soundHeld n h)) where
+module _ (n : ℕ) (h : SplitTotal) (t : T (soundTotal n h)) where
   pub residue-bound : h .residue < 2 ^ 50
-  unfolding soundHeld
+  unfolding soundTotal
   residue-bound = ltb→lt (h .residue) (2 ^ 50) (and-l (ltb (h .residue) (2 ^ 50)) (leb (natAbs (totalOf h)) (n * 2 ^ 39)) t)
 
   pub total-bound : natAbs (totalOf h) ≤ n * 2 ^ 39
-  unfolding soundHeld
+  unfolding soundTotal
   total-bound = leb→le (natAbs (totalOf h)) (n * 2 ^ 39) (and-r (ltb (h .residue) (2 ^ 50)) (leb (natAbs (totalOf h)) (n * 2 ^ 39)) t)
 
   pub carry-bound : n < 2 ^ 32 → natAbs (h .carry) < 2 ^ 22
   carry-bound l = omega (arith, residue-bound, total-bound, carry-small (h .residue) (h .carry))
 
-  pub held-range : n < 2 ^ 32 → InRange h
-  held-range l = (residue-bound, carry-bound l)
+  pub total-range : n < 2 ^ 32 → InRange h
+  total-range l = (residue-bound, carry-bound l)

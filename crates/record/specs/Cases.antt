@@ -7,16 +7,16 @@ use lib.IntN.{pos, negsuc}
 use lib.ListN.{replicate}
 use Rattle.codec.specs.Bytes.{number, bytes, numberAt}
 use Rattle.codec.specs.Cells.{cells}
-use Rattle.level.specs.declared.Held.{Held}
+use Rattle.level.specs.declared.SplitTotal.{SplitTotal}
 use Rattle.record.specs.declared.Record.{Record}
 use Rattle.record.specs.declared.Place.the-variants.{At, Gap}
 use Rattle.record.specs.Layout.{decode, encode, records}
 use Rattle.record.specs.Keys.{keys, rising, countBelow, has, place}
 use Rattle.level.specs.Carry.{totalOf}
-use Rattle.record.specs.Sound.{soundHeld, isZero, soundRecord, soundRecords, sound}
+use Rattle.record.specs.Sound.{soundTotal, isZero, soundRecord, soundRecords, sound}
 
 -- B2, row -1 : first residue 1125882726973440, carry -1, top 26
-abbrev nothing : Held
+abbrev nothing : SplitTotal
 nothing = record { residue = 0; carry = pos 0 }
 
 abbrev b2 : Record
@@ -30,7 +30,7 @@ unfolding decode encode bytes numberAt number
 b2-back = refl
 
 b2-sound : soundRecord b2 ≡ true
-unfolding soundRecord soundHeld isZero
+unfolding soundRecord soundTotal isZero
 b2-sound = refl
 
 -- two tables of one record and of two
@@ -38,11 +38,11 @@ abbrev one : List ℕ
 one = encode b2 ++ replicate 70 255
 
 one-sound : sound one 1 ≡ true
-unfolding sound soundRecords soundRecord soundHeld isZero rising cells decode encode bytes numberAt number
+unfolding sound soundRecords soundRecord soundTotal isZero rising cells decode encode bytes numberAt number
 one-sound = refl
 
 twice-not : sound (encode b2 ++ encode b2) 2 ≡ false
-unfolding sound soundRecords soundRecord soundHeld isZero rising cells decode encode bytes numberAt number
+unfolding sound soundRecords soundRecord soundTotal isZero rising cells decode encode bytes numberAt number
 twice-not = refl
 
 found : place 7 (keys (records one 1)) ≡ At 0
@@ -54,10 +54,10 @@ unfolding has countBelow cells decode encode bytes numberAt number
 gap = refl
 
 -- at the bound, and one past it, on either side
-edge : (soundHeld 1 (record { residue = 2 ^ 39; carry = pos 0 }) ≡ true) × (soundHeld 1 (record { residue = 2 ^ 39 + 1; carry = pos 0 }) ≡ false)
-unfolding soundHeld
+edge : (soundTotal 1 (record { residue = 2 ^ 39; carry = pos 0 }) ≡ true) × (soundTotal 1 (record { residue = 2 ^ 39 + 1; carry = pos 0 }) ≡ false)
+unfolding soundTotal
 edge = (refl, refl)
 
-edge-below : (soundHeld 1 (record { residue = 2 ^ 50 - 2 ^ 39; carry = negsuc 0 }) ≡ true) × (soundHeld 1 (record { residue = 2 ^ 50 - 2 ^ 39 - 1; carry = negsuc 0 }) ≡ false)
-unfolding soundHeld
+edge-below : (soundTotal 1 (record { residue = 2 ^ 50 - 2 ^ 39; carry = negsuc 0 }) ≡ true) × (soundTotal 1 (record { residue = 2 ^ 50 - 2 ^ 39 - 1; carry = negsuc 0 }) ≡ false)
+unfolding soundTotal
 edge-below = (refl, refl)

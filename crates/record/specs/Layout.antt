@@ -5,12 +5,12 @@ use mir.Syntax.{w64}
 use mir.Val.{toZ, ofZ}
 use Rattle.codec.specs.Bytes.{bytes, numberAt}
 use Rattle.codec.specs.Cells.{cells}
-use Rattle.level.specs.declared.Held.{Held}
+use Rattle.level.specs.declared.SplitTotal.{SplitTotal}
 use Rattle.record.specs.declared.Record.{Record}
 
 -- the residue and the carry in the 16 bytes of s from at on; the carry is in two's complement
-abbrev pub heldAt : List ℕ → ℕ → Held
-heldAt s at = record { residue = numberAt 8 s at; carry = toZ w64 (numberAt 8 s (at + 8)) }
+abbrev pub totalAt : List ℕ → ℕ → SplitTotal
+totalAt s at = record { residue = numberAt 8 s at; carry = toZ w64 (numberAt 8 s (at + 8)) }
 
 -- the record in the 64 bytes of s from at on
 abbrev pub recordAt : List ℕ → ℕ → Record
@@ -19,9 +19,9 @@ recordAt s at = record {
   count = numberAt 4 s (at + 4);
   top = numberAt 4 s (at + 8);
   zero = numberAt 4 s (at + 12);
-  high = heldAt s (at + 16);
-  middle = heldAt s (at + 32);
-  low = heldAt s (at + 48);
+  high = totalAt s (at + 16);
+  middle = totalAt s (at + 32);
+  low = totalAt s (at + 48);
 }
 
 -- the record that 64 bytes are
@@ -29,14 +29,14 @@ unfoldable pub decode : List ℕ → Record
 decode b = recordAt b 0
 
 -- the 16 bytes of a residue and a carry
-abbrev pub encodeHeld : Held → List ℕ
-encodeHeld t = bytes 8 (t .residue) ++ bytes 8 (ofZ w64 (t .carry))
+abbrev pub encodeTotal : SplitTotal → List ℕ
+encodeTotal t = bytes 8 (t .residue) ++ bytes 8 (ofZ w64 (t .carry))
 
 -- the 64 bytes of a record
 unfoldable pub encode : Record → List ℕ
 encode r =
     bytes 4 (r .key) ++ bytes 4 (r .count) ++ bytes 4 (r .top) ++ bytes 4 (r .zero)
-    ++ encodeHeld (r .high) ++ encodeHeld (r .middle) ++ encodeHeld (r .low)
+    ++ encodeTotal (r .high) ++ encodeTotal (r .middle) ++ encodeTotal (r .low)
 
 -- the first g records
 abbrev pub records : List ℕ → ℕ → List Record

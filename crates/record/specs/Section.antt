@@ -8,7 +8,7 @@ use lib.IntN.{ℤ, pos, _+ℤ_, _*ℤ_}
 use lib.ListN.{length, drop}
 use Rattle.codec.specs.Cells.{image}
 use Rattle.level.specs.Level.{unit, below}
-use Rattle.level.specs.Carry.{heldOf, totalOf}
+use Rattle.level.specs.Carry.{splitOf, totalOf}
 use Rattle.record.specs.declared.Record.{Record}
 use Rattle.record.specs.Layout.{records, encode}
 
@@ -39,9 +39,9 @@ recordOf s = record {
   count = s .count;
   top = s .top;
   zero = 0;
-  high = heldOf (s .high);
-  middle = heldOf (s .middle);
-  low = heldOf (s .low);
+  high = splitOf (s .high);
+  middle = splitOf (s .middle);
+  low = splitOf (s .low);
 }
 
 -- the sections of a table of g records in the bytes s

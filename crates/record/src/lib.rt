@@ -6,26 +6,31 @@ ghost use mathlib.Core.List.{_∷_, _++_};
 ghost use lib.ListN.{length, take, drop};
 ghost use lib.Seq.{sets};
 ghost use lib.Dec.{T, ltb, leb};
-ghost use Rattle.record.specs.Layout.{heldAt, recordAt, encodeHeld, encode, decode, records, capacity as roomFor};
+ghost use Rattle.record.specs.Layout.{totalAt, recordAt, encodeTotal, encode, decode, records, capacity as roomFor};
 ghost use Rattle.record.specs.Keys.{keys, rising, place};
-ghost use Rattle.record.specs.Sound.{soundHeld, isZero, soundRecord, soundRecords, sound};
-use level::Held;
+ghost use Rattle.record.specs.Sound.{soundTotal, isZero, soundRecord, soundRecords, sound};
+use level::SplitTotal;
+
+// A total is its carry times 2^50, and its residue; at most 2^39 a row in size.
+const CARRY_BASE: u64 = 1 << 50;
+
+const LEVEL_BOUND: u64 = 1 << 39;
 
 pub struct Record {
     pub key: u32,
     pub count: u32,
     pub top: u32,
     pub zero: u32,
-    pub high: Held,
-    pub middle: Held,
-    pub low: Held,
+    pub high: SplitTotal,
+    pub middle: SplitTotal,
+    pub low: SplitTotal,
 }
 
-fn get_held(t: &[u8], at: usize) -> Held
+fn get_total(t: &[u8], at: usize) -> SplitTotal
     requires { ⌜ at + 16 ≤ length (now t) ⌝ }
-    ensures { λ r. ⌜ r ≡ heldAt (now (t .entry)) at ⌝ }
+    ensures { λ r. ⌜ r ≡ totalAt (now (t .entry)) at ⌝ }
 {
-    Held {
+    SplitTotal {
         residue: codec::u64_at(t, at),
         carry: codec::i64_at(t, at + 8),
     }
@@ -42,15 +47,15 @@ pub fn get(t: &[u8], i: usize) -> Record
         count: codec::u32_at(t, at + 4),
         top: codec::u32_at(t, at + 8),
         zero: codec::u32_at(t, at + 12),
-        high: get_held(t, at + 16),
-        middle: get_held(t, at + 32),
-        low: get_held(t, at + 48),
+        high: get_total(t, at + 16),
+        middle: get_total(t, at + 32),
+        low: get_total(t, at + 48),
     }
 }
 
-fn put_held(t: &mut [u8], at: usize, x: Held)
+fn put_total(t: &mut [u8], at: usize, x: SplitTotal)
     requires { ⌜ at + 16 ≤ length (now t) ⌝ }
-    ensures { λ r. ⌜ now (t .exit) ≡ sets (now (t .entry)) at (encodeHeld x) ⌝ }
+    ensures { λ r. ⌜ now (t .exit) ≡ sets (now (t .entry)) at (encodeTotal x) ⌝ }
 {
     codec::put_u64(t, at, x.residue);
     codec::put_i64(t, at + 8, x.carry);
@@ -66,9 +71,9 @@ pub fn put(t: &mut [u8], i: usize, r: Record)
     codec::put_u32(t, at + 4, r.count);
     codec::put_u32(t, at + 8, r.top);
     codec::put_u32(t, at + 12, r.zero);
-    put_held(t, at + 16, r.high);
-    put_held(t, at + 32, r.middle);
-    put_held(t, at + 48, r.low);
+    put_total(t, at + 16, r.high);
+    put_total(t, at + 32, r.middle);
+    put_total(t, at + 48, r.low);
 }
 
 // Where a key stands among the records, or how many stand before the place where it would.
@@ -137,24 +142,24 @@ fn at_most(k: u64, s: u64, count: u32) -> bool
     if q < k {
         return false;
     }
-    s <= ((count % 2048) as u64) * 549755813888
+    s <= ((count % 2048) as u64) * LEVEL_BOUND
 }
 
-fn held_sound(x: Held, count: u32) -> bool
-    ensures { λ r. ⌜ r ≡ soundHeld count x ⌝ }
+fn total_sound(x: SplitTotal, count: u32) -> bool
+    ensures { λ r. ⌜ r ≡ soundTotal count x ⌝ }
 {
     let s = x.residue;
     let c = x.carry;
-    if s < 1125899906842624 {
+    if s < CARRY_BASE {
         if c < 0 {
-            return at_most(!c as u64, 1125899906842624 - s, count);
+            return at_most(!c as u64, CARRY_BASE - s, count);
         }
         return at_most(c as u64, s, count);
     }
     false
 }
 
-fn is_zero(x: Held) -> bool
+fn is_zero(x: SplitTotal) -> bool
     ensures { λ r. ⌜ r ≡ isZero x ⌝ }
 {
     both(x.residue == 0, x.carry == 0)
@@ -166,8 +171,8 @@ fn record_sound(r: Record) -> bool
     let n = r.count;
     let head = both(both(1 <= n, r.top <= 52), r.zero == 0);
     let a = both(
-        both(both(head, held_sound(r.high, n)), held_sound(r.middle, n)),
-        held_sound(r.low, n),
+        both(both(head, total_sound(r.high, n)), total_sound(r.middle, n)),
+        total_sound(r.low, n),
     );
     let b = both(a, either(1 <= r.top, is_zero(r.middle)));
     both(b, either(2 <= r.top, is_zero(r.low)))
@@ -203,7 +208,7 @@ pub fn capacity(n: usize) -> usize
     if all < 1024 { all } else { 1024 }
 }
 
-// Whether the bytes hold a sound table of g records.
+// Whether the bytes split a sound table of g records.
 pub fn is_sound(t: &[u8], g: usize) -> bool
     ensures { λ r. ⌜ r ≡ sound (now (t .entry)) g ⌝ }
 {

@@ -24,20 +24,21 @@ use Rattle.finish.specs.Sum.{nearestDouble, tooLarge}
 use Rattle.finish.specs.Figure.{beyond}
 use Rattle.finish.specs.Finish.{sumOf, figureOf, figureFor}
 use Rattle.report.specs.Numerals.{decimal, integer, hexadecimal}
-use Rattle.report.specs.Text.{space, lineFeed, headLine, refusal, figureField, lastFields, lineWith, lineText, emptyTable, addText, columnsText, fileText, reportText}
+use Rattle.report.specs.Text.{space, lineFeed, headLine, refusal, figureField, lastFields, lineWith, lineText, tableSize, emptyTable, addText, columnsText, fileText, reportText}
+use Rattle.report.specs.Steps.{decimalSize, integerSize, refusalSize, longestLine, textSize}
 use Rattle.report.proofs.Digits.{short, length-digits}
 use Rattle.report.proofs.Whole.{columns-left}
 
 -- ---- one line
-length-decimal : (n : ℕ) → n < 2 ^ 32 → length (decimal n) ≤ 10
+length-decimal : (n : ℕ) → n < 2 ^ 32 → length (decimal n) ≤ decimalSize
 length-decimal n h = short 9 n (omega arith)
 
-length-integer : (z : ℤ) → beyond z ≡ false → length (integer z) ≤ 11
+length-integer : (z : ℤ) → beyond z ≡ false → length (integer z) ≤ integerSize
 unfolding integer beyond
 length-integer (pos n) e = omega (arith, length-decimal n (omega (arith, ltb-false 2147483647 n e)))
 length-integer (negsuc n) e = omega (arith, length-decimal (suc n) (omega (arith, ltb-false 2147483647 (suc n) e)))
 
-length-refusal : (n : ℕ) → n < 2 ^ 32 → length (refusal n) ≤ 18
+length-refusal : (n : ℕ) → n < 2 ^ 32 → length (refusal n) ≤ refusalSize
 unfolding refusal
 length-refusal n h = omega (arith, length-decimal n h)
 
@@ -48,7 +49,7 @@ length-last s = by (tooLarge (kept s)) (beyond (figureFor s)) refl
     bits : List ℕ
     bits = hexadecimal (toBits binary64 (nearestDouble (kept s)))
 
-    after-bits : (l : List ℕ) → length l ≤ 18 → length (bits ++ space ++ l) ≤ 35
+    after-bits : (l : List ℕ) → length l ≤ refusalSize → length (bits ++ space ++ l) ≤ 35
     after-bits l h =
         omega (arith, length-append (bits ++ space) l, length-append bits space, length-digits 16 16 (toBits binary64 (nearestDouble (kept s))))
 
@@ -58,7 +59,7 @@ length-last s = by (tooLarge (kept s)) (beyond (figureFor s)) refl
     by false true e = after-bits (refusal 15) (length-refusal 15 (omega arith))
     by false false e = after-bits (integer (figureFor s)) (omega (arith, length-integer (figureFor s) e))
 
-length-line : (s : Section) → Fits s → length (lineText s) ≤ 58
+length-line : (s : Section) → Fits s → length (lineText s) ≤ longestLine
 unfolding lineText lineWith
 length-line s f =
     let last = lastFields (sumOf (some s)) (figureOf (some s)) in
@@ -76,44 +77,44 @@ length-line s f =
       length-last s,
     )
 
-length-lines : (ts : List Section) → All Fits ts → length (image lineText ts) ≤ 58 * length ts
+length-lines : (ts : List Section) → All Fits ts → length (image lineText ts) ≤ longestLine * length ts
 unfolding image
 length-lines [] a = omega arith
 length-lines (t ∷ ts) a = omega (arith, length-append (lineText t) (image lineText ts), length-line t (a .0), length-lines ts (a .1))
 
 -- ---- the whole text
-length-refused : (n : ℕ) → n < 100 → length (refusal n ++ lineFeed) ≤ 4096
+length-refused : (n : ℕ) → n < 100 → length (refusal n ++ lineFeed) ≤ textSize
 length-refused n h = omega (arith, length-append (refusal n) lineFeed, length-refusal n (omega arith))
 
-add-number : (ks vs : List ℕ) {n : ℕ} → addOutcome Double emptyTable 0 ks vs 4096 ≡ refused n → n < 100
+add-number : (ks vs : List ℕ) {n : ℕ} → addOutcome Double emptyTable 0 ks vs tableSize ≡ refused n → n < 100
 unfolding addGrounds columnGrounds
-add-number ks vs e = refused-below 100 (addGrounds Double emptyTable 0 ks vs 4096) (length (addSections Double emptyTable 0 ks vs)) refl e
+add-number ks vs e = refused-below 100 (addGrounds Double emptyTable 0 ks vs tableSize) (length (addSections Double emptyTable 0 ks vs)) refl e
 
 read-number : (f : List ℕ) {n : ℕ} → readOutcome Double f ≡ refused n → n < 100
 unfolding readOutcome readGrounds
 read-number f e = refused-below 100 (readGrounds Double f) (rowCount f) refl e
 
-length-columns : (ks vs : List ℕ) → AreBytes ks → length (columnsText Double ks vs) ≤ 4096
+length-columns : (ks vs : List ℕ) → AreBytes ks → length (columnsText Double ks vs) ≤ textSize
 unfolding columnsText addText headLine
-length-columns ks vs b = by (addOutcome Double emptyTable 0 ks vs 4096) refl
+length-columns ks vs b = by (addOutcome Double emptyTable 0 ks vs tableSize) refl
   where
     ts : List Section
     ts = addSections Double emptyTable 0 ks vs
 
-    by : (o : Outcome ℕ) → addOutcome Double emptyTable 0 ks vs 4096 ≡ o → length (addText o ts) ≤ 4096
+    by : (o : Outcome ℕ) → addOutcome Double emptyTable 0 ks vs tableSize ≡ o → length (addText o ts) ≤ textSize
     by (accepted g) e =
         let l = columns-left ks vs g b e in
         let room : g ≤ 64 = l .room in
         omega (arith, l .groups, length-lines ts (rw (← l .holds) (l .table .fits)))
     by (refused n) e = length-refused n (add-number ks vs e)
 
-pub length-report : (f : List ℕ) → AreBytes f → length (reportText f) ≤ 4096
+pub length-report : (f : List ℕ) → AreBytes f → length (reportText f) ≤ textSize
 unfolding reportText fileText
 length-report f b = by (readOutcome Double f) refl
   where
     key-bytes : (n : ℕ) → readOutcome Double f ≡ accepted n → AreBytes (keyColumn Double f)
     key-bytes n e = rw (key-column Double f e) (take-bytes (4 * n) (drop (length f - keyDistance f) f) (drop-bytes (length f - keyDistance f) f b))
 
-    by : (o : Outcome ℕ) → readOutcome Double f ≡ o → length (fileText o f) ≤ 4096
+    by : (o : Outcome ℕ) → readOutcome Double f ≡ o → length (fileText o f) ≤ textSize
     by (accepted n) e = length-columns (keyColumn Double f) (valueColumn Double f) (key-bytes n e)
     by (refused n) e = length-refused n (read-number f e)

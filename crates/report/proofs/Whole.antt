@@ -17,23 +17,23 @@ use Rattle.record.specs.Section.{sections}
 use Rattle.table.specs.Calls.{addSections, addOutcome, addLeaves}
 use Rattle.table.proofs.Accepted.{Left, proper-none, add-left}
 use Rattle.finish.proofs.Outcomes.{never}
-use Rattle.report.specs.Text.{refusal, lineFeed, headLine, lineText, emptyTable, addText, columnsText, fileText, reportText}
+use Rattle.report.specs.Text.{tableSize, refusal, lineFeed, headLine, lineText, emptyTable, addText, columnsText, fileText, reportText}
 use Rattle.report.specs.Answer.{printOutcome, printLeaves}
 use Rattle.report.specs.Steps.{Continued}
 
 -- what an accepted add to the empty table leaves
-pub columns-left : (ks vs : List ℕ) (g : ℕ) → AreBytes ks → addOutcome Double emptyTable 0 ks vs 4096 ≡ accepted g
-    → Left emptyTable (addSections Double emptyTable 0 ks vs) (addLeaves Double emptyTable 0 ks vs 4096) g
-columns-left ks vs g a e = add-left emptyTable 0 (proper-none emptyTable) Double ks vs 4096 a e
+pub columns-left : (ks vs : List ℕ) (g : ℕ) → AreBytes ks → addOutcome Double emptyTable 0 ks vs tableSize ≡ accepted g
+    → Left emptyTable (addSections Double emptyTable 0 ks vs) (addLeaves Double emptyTable 0 ks vs tableSize) g
+columns-left ks vs g a e = add-left emptyTable 0 (proper-none emptyTable) Double ks vs tableSize a e
 
-pub columns-accepted : (ks vs : List ℕ) (g : ℕ) → AreBytes ks → addOutcome Double emptyTable 0 ks vs 4096 ≡ accepted g
-    → columnsText Double ks vs ≡ headLine ++ image lineText (sections (addLeaves Double emptyTable 0 ks vs 4096) g)
+pub columns-accepted : (ks vs : List ℕ) (g : ℕ) → AreBytes ks → addOutcome Double emptyTable 0 ks vs tableSize ≡ accepted g
+    → columnsText Double ks vs ≡ headLine ++ image lineText (sections (addLeaves Double emptyTable 0 ks vs tableSize) g)
 unfolding columnsText addText
 columns-accepted ks vs g a e =
     ap (λ o. addText o (addSections Double emptyTable 0 ks vs)) e
     ∙ ap (λ ts. headLine ++ image lineText ts) (sym (columns-left ks vs g a e .holds))
 
-pub columns-refused : (ks vs : List ℕ) (n : ℕ) → addOutcome Double emptyTable 0 ks vs 4096 ≡ refused n → columnsText Double ks vs ≡ refusal n ++ lineFeed
+pub columns-refused : (ks vs : List ℕ) (n : ℕ) → addOutcome Double emptyTable 0 ks vs tableSize ≡ refused n → columnsText Double ks vs ≡ refusal n ++ lineFeed
 unfolding columnsText addText
 columns-refused ks vs n e = ap (λ o. addText o (addSections Double emptyTable 0 ks vs)) e
 

@@ -1,5 +1,5 @@
 -- The text of the report, as a definition of the file's bytes.
-use Prim.Native.Nat.{ℕ}
+use Prim.Native.Nat.{ℕ, _*_}
 use mathlib.Core.List.{List, [], _∷_, _++_}
 use mathlib.Core.Option.{some}
 use lib.IntN.{ℤ}
@@ -57,9 +57,13 @@ lineWith key count last = decimal key ++ space ++ decimal count ++ space ++ last
 unfoldable pub lineText : Section → List ℕ
 lineText s = lineWith (s .key) (s .count) (lastFields (sumOf (some s)) (figureOf (some s)))
 
--- an empty table of 64 groups, which is as long as the work buffer
+-- the bytes of a table of 64 groups, and of its work buffer
+abbrev pub tableSize : ℕ
+tableSize = 64 * 64
+
+-- an empty table
 abbrev pub emptyTable : List ℕ
-emptyTable = replicate 4096 0
+emptyTable = replicate tableSize 0
 
 -- what the add of two columns prints: only its refusal, or the head line and a line for each section, the keys rising
 unfoldable pub addText : Outcome ℕ → List Section → List ℕ
@@ -68,7 +72,7 @@ addText (refused n) ts = refusal n ++ lineFeed
 
 -- what the add of two columns to an empty table prints
 unfoldable pub columnsText : Kind → List ℕ → List ℕ → List ℕ
-columnsText kind ks vs = addText (addOutcome kind emptyTable 0 ks vs 4096) (addSections kind emptyTable 0 ks vs)
+columnsText kind ks vs = addText (addOutcome kind emptyTable 0 ks vs tableSize) (addSections kind emptyTable 0 ks vs)
 
 -- what a file prints: only its refusal, or what the add of its columns prints
 unfoldable pub fileText : Outcome ℕ → List ℕ → List ℕ

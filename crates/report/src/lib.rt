@@ -17,7 +17,7 @@ ghost use Rattle.report.specs.Numerals.{digit, digits, decimal, integer,
 ghost use Rattle.columns.specs.declared.Kind.the-variants.{Double};
 ghost use Rattle.report.specs.Text.{space, lineFeed, refusal, lastFields, lineWith, lineText, headLine, columnsText, reportText};
 ghost use Rattle.report.specs.Answer.{printedAnswer, printOutcome, printLeaves};
-ghost use Rattle.report.specs.Steps.{Continued};
+ghost use Rattle.report.specs.Steps.{Continued, decimalSize, integerSize, bitsSize, refusalSize, startSize, lineSize, longestLine, shortLine, textSize};
 use finish::FinishedLine;
 use finish::LineAnswer;
 use finish::SectionSum;
@@ -58,7 +58,7 @@ fn put_digits(text: &mut [u8], at: usize, n: u64, base: u64, w: usize)
 
 // How many decimal digits n has.
 fn width(n: u32) -> usize
-    ensures { λ r. ⌜ (r ≡ length (decimal n)) × (r ≤ 10) ⌝ }
+    ensures { λ r. ⌜ (r ≡ length (decimal n)) × (r ≤ decimalSize) ⌝ }
 {
     let mut y = n;
     let mut w = 1;
@@ -91,8 +91,8 @@ fn print_bytes(text: &mut [u8], at: usize, w: &[u8]) -> usize
 }
 
 fn print_decimal(text: &mut [u8], at: usize, n: u32) -> usize
-    requires { ⌜ at + 10 ≤ length (now text) ⌝ }
-    ensures { λ r. ⌜ Continued (now (text .entry)) at (decimal n) 10 (now (text .exit)) r ⌝ }
+    requires { ⌜ at + decimalSize ≤ length (now text) ⌝ }
+    ensures { λ r. ⌜ Continued (now (text .entry)) at (decimal n) decimalSize (now (text .exit)) r ⌝ }
 {
     let w = width(n);
     put_digits(text, at, n as u64, 10, w);
@@ -100,8 +100,8 @@ fn print_decimal(text: &mut [u8], at: usize, n: u32) -> usize
 }
 
 fn print_integer(text: &mut [u8], at: usize, z: i32) -> usize
-    requires { ⌜ at + 11 ≤ length (now text) ⌝ }
-    ensures { λ r. ⌜ Continued (now (text .entry)) at (integer z) 11 (now (text .exit)) r ⌝ }
+    requires { ⌜ at + integerSize ≤ length (now text) ⌝ }
+    ensures { λ r. ⌜ Continued (now (text .entry)) at (integer z) integerSize (now (text .exit)) r ⌝ }
 {
     if z < 0 {
         let next = print_byte(text, at, b'-');
@@ -111,8 +111,8 @@ fn print_integer(text: &mut [u8], at: usize, z: i32) -> usize
 }
 
 fn print_bits(text: &mut [u8], at: usize, bits: u64) -> usize
-    requires { ⌜ at + 16 ≤ length (now text) ⌝ }
-    ensures { λ r. ⌜ Continued (now (text .entry)) at (hexadecimal bits) 16 (now (text .exit)) r ⌝ }
+    requires { ⌜ at + bitsSize ≤ length (now text) ⌝ }
+    ensures { λ r. ⌜ Continued (now (text .entry)) at (hexadecimal bits) bitsSize (now (text .exit)) r ⌝ }
 {
     put_digits(text, at, bits, 16, 16);
     at + 16
@@ -120,8 +120,8 @@ fn print_bits(text: &mut [u8], at: usize, bits: u64) -> usize
 
 // "refused" and a refusal's number.
 fn print_refusal(text: &mut [u8], at: usize, n: u32) -> usize
-    requires { ⌜ at + 18 ≤ length (now text) ⌝ }
-    ensures { λ r. ⌜ Continued (now (text .entry)) at (refusal n) 18 (now (text .exit)) r ⌝ }
+    requires { ⌜ at + refusalSize ≤ length (now text) ⌝ }
+    ensures { λ r. ⌜ Continued (now (text .entry)) at (refusal n) refusalSize (now (text .exit)) r ⌝ }
 {
     let next = print_bytes(text, at, b"refused ");
     print_decimal(text, next, n)
@@ -129,8 +129,8 @@ fn print_refusal(text: &mut [u8], at: usize, n: u32) -> usize
 
 // Section and row count, a space after each.
 fn print_start(text: &mut [u8], at: usize, key: u32, count: u32) -> usize
-    requires { ⌜ at + 22 ≤ length (now text) ⌝ }
-    ensures { λ r. ⌜ Continued (now (text .entry)) at (decimal key ++ space ++ decimal count ++ space) 22 (now (text .exit)) r ⌝ }
+    requires { ⌜ at + startSize ≤ length (now text) ⌝ }
+    ensures { λ r. ⌜ Continued (now (text .entry)) at (decimal key ++ space ++ decimal count ++ space) startSize (now (text .exit)) r ⌝ }
 {
     let a = print_decimal(text, at, key);
     let b = print_byte(text, a, b' ');
@@ -140,9 +140,9 @@ fn print_start(text: &mut [u8], at: usize, key: u32, count: u32) -> usize
 
 // The sum's bits and a space.
 fn print_sum(text: &mut [u8], at: usize, sum: f64) -> usize
-    requires { ⌜ at + 17 ≤ length (now text) ⌝ }
+    requires { ⌜ at + bitsSize + 1 ≤ length (now text) ⌝ }
     requires { ⌜ T (finite sum) ⌝ }
-    ensures { λ r. ⌜ Continued (now (text .entry)) at (hexadecimal (toBits binary64 sum) ++ space) 17 (now (text .exit)) r ⌝ }
+    ensures { λ r. ⌜ Continued (now (text .entry)) at (hexadecimal (toBits binary64 sum) ++ space) (bitsSize + 1) (now (text .exit)) r ⌝ }
 {
     let next = print_bits(text, at, f64::to_bits(sum));
     print_byte(text, next, b' ')
@@ -150,9 +150,9 @@ fn print_sum(text: &mut [u8], at: usize, sum: f64) -> usize
 
 // A finished line.
 fn print_line(text: &mut [u8], at: usize, line: FinishedLine) -> usize
-    requires { ⌜ at + 51 ≤ length (now text) ⌝ }
+    requires { ⌜ at + lineSize ≤ length (now text) ⌝ }
     requires { ⌜ T (finite (line .sum)) ⌝ }
-    ensures { λ r. ⌜ Continued (now (text .entry)) at (lineWith (line .key) (line .count) (lastFields (accepted (line .sum)) (accepted (line .figure)))) 51 (now (text .exit)) r ⌝ }
+    ensures { λ r. ⌜ Continued (now (text .entry)) at (lineWith (line .key) (line .count) (lastFields (accepted (line .sum)) (accepted (line .figure)))) lineSize (now (text .exit)) r ⌝ }
 {
     let a = print_start(text, at, line.key, line.count);
     let b = print_sum(text, a, line.sum);
@@ -162,9 +162,9 @@ fn print_line(text: &mut [u8], at: usize, line: FinishedLine) -> usize
 
 // The line of a section whose mill figure is refused.
 fn print_figureless(text: &mut [u8], at: usize, key: u32, count: u32, sum: f64) -> usize
-    requires { ⌜ at + 58 ≤ length (now text) ⌝ }
+    requires { ⌜ at + longestLine ≤ length (now text) ⌝ }
     requires { ⌜ T (finite sum) ⌝ }
-    ensures { λ r. ⌜ Continued (now (text .entry)) at (lineWith key count (lastFields (accepted sum) (refused 15))) 58 (now (text .exit)) r ⌝ }
+    ensures { λ r. ⌜ Continued (now (text .entry)) at (lineWith key count (lastFields (accepted sum) (refused 15))) longestLine (now (text .exit)) r ⌝ }
 {
     let a = print_start(text, at, key, count);
     let b = print_sum(text, a, sum);
@@ -174,8 +174,8 @@ fn print_figureless(text: &mut [u8], at: usize, key: u32, count: u32, sum: f64) 
 
 // The line of a section whose sum is refused with n.
 fn print_sumless(text: &mut [u8], at: usize, key: u32, count: u32, n: u32) -> usize
-    requires { ⌜ at + 41 ≤ length (now text) ⌝ }
-    ensures { λ r. ⌜ Continued (now (text .entry)) at (lineWith key count (refusal n)) 41 (now (text .exit)) r ⌝ }
+    requires { ⌜ at + shortLine ≤ length (now text) ⌝ }
+    ensures { λ r. ⌜ Continued (now (text .entry)) at (lineWith key count (refusal n)) shortLine (now (text .exit)) r ⌝ }
 {
     let a = print_start(text, at, key, count);
     let b = print_refusal(text, a, n);
@@ -184,9 +184,9 @@ fn print_sumless(text: &mut [u8], at: usize, key: u32, count: u32, n: u32) -> us
 
 // The line of a section that has no finished line.
 fn print_unfinished(text: &mut [u8], at: usize, key: u32, count: u32, sum: SectionSum) -> usize
-    requires { ⌜ at + 58 ≤ length (now text) ⌝ }
+    requires { ⌜ at + longestLine ≤ length (now text) ⌝ }
     requires { ⌜ FiniteSum sum ⌝ }
-    ensures { λ r. ⌜ Continued (now (text .entry)) at (lineWith key count (lastFields (sumAnswer sum) (refused 15))) 58 (now (text .exit)) r ⌝ }
+    ensures { λ r. ⌜ Continued (now (text .entry)) at (lineWith key count (lastFields (sumAnswer sum) (refused 15))) longestLine (now (text .exit)) r ⌝ }
 {
     match sum {
         SectionSum::Finite(x) => print_figureless(text, at, key, count, x),
@@ -198,9 +198,9 @@ fn print_unfinished(text: &mut [u8], at: usize, key: u32, count: u32, sum: Secti
 
 // The line of a sound record's section.
 fn print_section(text: &mut [u8], at: usize, r: Record) -> usize
-    requires { ⌜ at + 58 ≤ length (now text) ⌝ }
+    requires { ⌜ at + longestLine ≤ length (now text) ⌝ }
     requires { ⌜ T (soundRecord r) ⌝ }
-    ensures { λ e. ⌜ Continued (now (text .entry)) at (lineText (meaning r)) 58 (now (text .exit)) e ⌝ }
+    ensures { λ e. ⌜ Continued (now (text .entry)) at (lineText (meaning r)) longestLine (now (text .exit)) e ⌝ }
 {
     match finish::record_line(r) {
         LineAnswer::Line(line) => print_line(text, at, line),
@@ -212,9 +212,9 @@ fn print_section(text: &mut [u8], at: usize, r: Record) -> usize
 
 // A line for each section of a sound table.
 fn print_sections(text: &mut [u8], at: usize, table: &[u8], g: usize) -> usize
-    requires { ⌜ at + 58 * g ≤ length (now text) ⌝ }
+    requires { ⌜ at + longestLine * g ≤ length (now text) ⌝ }
     requires { ⌜ T (sound (now table) g) ⌝ }
-    ensures { λ r. ⌜ Continued (now (text .entry)) at (image lineText (sections (now (table .entry)) g)) (58 * g) (now (text .exit)) r ⌝ }
+    ensures { λ r. ⌜ Continued (now (text .entry)) at (image lineText (sections (now (table .entry)) g)) (longestLine * g) (now (text .exit)) r ⌝ }
 {
     let mut end = at;
     let mut i = 0;
@@ -227,9 +227,9 @@ fn print_sections(text: &mut [u8], at: usize, table: &[u8], g: usize) -> usize
 
 // The head line and a line for each section.
 fn print_table(text: &mut [u8], table: &[u8], g: usize) -> usize
-    requires { ⌜ (g ≤ 64) × (4096 ≤ length (now text)) ⌝ }
+    requires { ⌜ (g ≤ 64) × (textSize ≤ length (now text)) ⌝ }
     requires { ⌜ T (sound (now table) g) ⌝ }
-    ensures { λ r. ⌜ Continued (now (text .entry)) 0 (headLine ++ image lineText (sections (now (table .entry)) g)) 4096 (now (text .exit)) r ⌝ }
+    ensures { λ r. ⌜ Continued (now (text .entry)) 0 (headLine ++ image lineText (sections (now (table .entry)) g)) textSize (now (text .exit)) r ⌝ }
 {
     let next = print_bytes(text, 0, b"section rows bits hundredths\n");
     print_sections(text, next, table, g)
@@ -237,8 +237,8 @@ fn print_table(text: &mut [u8], table: &[u8], g: usize) -> usize
 
 // Nothing but a refusal.
 fn print_refused(text: &mut [u8], n: u32) -> usize
-    requires { ⌜ 4096 ≤ length (now text) ⌝ }
-    ensures { λ r. ⌜ Continued (now (text .entry)) 0 (refusal n ++ lineFeed) 4096 (now (text .exit)) r ⌝ }
+    requires { ⌜ textSize ≤ length (now text) ⌝ }
+    ensures { λ r. ⌜ Continued (now (text .entry)) 0 (refusal n ++ lineFeed) textSize (now (text .exit)) r ⌝ }
 {
     let next = print_refusal(text, 0, n);
     print_byte(text, next, b'\n')
@@ -246,8 +246,8 @@ fn print_refused(text: &mut [u8], n: u32) -> usize
 
 // What the columns print.
 fn print_columns(text: &mut [u8], keys: &[u8], values: &[u8]) -> usize
-    requires { ⌜ 4096 ≤ length (now text) ⌝ }
-    ensures { λ r. ⌜ Continued (now (text .entry)) 0 (columnsText Double (now (keys .entry)) (now (values .entry))) 4096 (now (text .exit)) r ⌝ }
+    requires { ⌜ textSize ≤ length (now text) ⌝ }
+    ensures { λ r. ⌜ Continued (now (text .entry)) 0 (columnsText Double (now (keys .entry)) (now (values .entry))) textSize (now (text .exit)) r ⌝ }
 {
     let mut table = [0u8; 4096];
     let mut work = [0u8; 4096];
@@ -259,8 +259,8 @@ fn print_columns(text: &mut [u8], keys: &[u8], values: &[u8]) -> usize
 
 // What the file prints.
 fn print_file(text: &mut [u8], file: &[u8]) -> usize
-    requires { ⌜ 4096 ≤ length (now text) ⌝ }
-    ensures { λ r. ⌜ Continued (now (text .entry)) 0 (reportText (now (file .entry))) 4096 (now (text .exit)) r ⌝ }
+    requires { ⌜ textSize ≤ length (now text) ⌝ }
+    ensures { λ r. ⌜ Continued (now (text .entry)) 0 (reportText (now (file .entry))) textSize (now (text .exit)) r ⌝ }
 {
     match patch::read(file) {
         Reading::Rows(_) => print_columns(text, patch::keys(file), patch::values(file)),

@@ -15,13 +15,13 @@ use mir.Syntax.{w64}
 use mir.Val.{SFits}
 use Rattle.codec.specs.Cells.{cells, image}
 use Rattle.codec.proofs.Cells.{cells-cons, length-image}
-use Rattle.level.specs.Carry.{carryOf, residueOf, heldOf}
-use Rattle.level.proofs.Carry.{residue-lt, held}
+use Rattle.level.specs.Carry.{carryOf, residueOf, splitOf}
+use Rattle.level.proofs.Carry.{residue-lt, total-split}
 use Rattle.record.specs.Layout.{encode, decode, records, capacity}
 use Rattle.record.specs.Keys.{keys, rising}
-use Rattle.record.specs.Sound.{soundHeld, isZero, soundRecord, soundRecords, sound}
+use Rattle.record.specs.Sound.{soundTotal, isZero, soundRecord, soundRecords, sound}
 use Rattle.record.specs.Section.{Section, meaning, recordOf, sections, sectionBytes, written}
-use Rattle.record.proofs.Laws.{length-encode, HeldInRange, InRange, decode-encode}
+use Rattle.record.proofs.Laws.{length-encode, TotalInRange, InRange, decode-encode}
 use Rattle.lists.proofs.All.{All}
 use Rattle.table.specs.Calls.{mostRows}
 use Rattle.table.proofs.Lookup.{Above, Rising, keysIn}
@@ -38,17 +38,17 @@ meaning-record s = λ i. record {
   key = s .key;
   count = s .count;
   top = s .top;
-  high = held (s .high) i;
-  middle = held (s .middle) i;
-  low = held (s .low) i;
+  high = total-split (s .high) i;
+  middle = total-split (s .middle) i;
+  low = total-split (s .low) i;
 }
 
 carry-fits : (z : ℤ) → natAbs z ≤ 2 ^ 71 → SFits w64 (carryOf z)
 carry-fits (pos n) h = record { sfits = omega arith }
 carry-fits (negsuc n) h = record { sfits = omega arith }
 
-held-in-range : (z : ℤ) → natAbs z ≤ 2 ^ 71 → HeldInRange (heldOf z)
-held-in-range z h = record { residue = omega (arith, residue-lt z); carry = carry-fits z h }
+split-in-range : (z : ℤ) → natAbs z ≤ 2 ^ 71 → TotalInRange (splitOf z)
+split-in-range z h = record { residue = omega (arith, residue-lt z); carry = carry-fits z h }
 
 in-range : (s : Section) → Fits s → InRange (recordOf s)
 in-range s f =
@@ -59,20 +59,20 @@ in-range s f =
       count = omega arith;
       top = omega (arith, p .top);
       zero = omega arith;
-      high = held-in-range (s .high) (omega (arith, p .high));
-      middle = held-in-range (s .middle) (omega (arith, p .middle));
-      low = held-in-range (s .low) (omega (arith, p .low));
+      high = split-in-range (s .high) (omega (arith, p .high));
+      middle = split-in-range (s .middle) (omega (arith, p .middle));
+      low = split-in-range (s .low) (omega (arith, p .low));
     }
 
-sound-held : (n : ℕ) (z : ℤ) → natAbs z ≤ n * 2 ^ 39 → soundHeld n (heldOf z) ≡ true
-unfolding soundHeld
-sound-held n z h = rw (lt-ltb (residueOf z) (2 ^ 50) (residue-lt z), held z) (le-leb (natAbs z) (n * 2 ^ 39) h)
+sound-total : (n : ℕ) (z : ℤ) → natAbs z ≤ n * 2 ^ 39 → soundTotal n (splitOf z) ≡ true
+unfolding soundTotal
+sound-total n z h = rw (lt-ltb (residueOf z) (2 ^ 50) (residue-lt z), total-split z) (le-leb (natAbs z) (n * 2 ^ 39) h)
 
-none-below : (i t : ℕ) (z : ℤ) → (t < i → z ≡ pos 0) → (leb i t || isZero (heldOf z)) ≡ true
+none-below : (i t : ℕ) (z : ℤ) → (t < i → z ≡ pos 0) → (leb i t || isZero (splitOf z)) ≡ true
 unfolding isZero
 none-below i t z h = go (decLe i t)
   where
-    go : Dec (i ≤ t) → (leb i t || isZero (heldOf z)) ≡ true
+    go : Dec (i ≤ t) → (leb i t || isZero (splitOf z)) ≡ true
     go (yes l) = rw (le-leb i t l)
     go (no l) = rw (lt-leb i t (omega arith), h (omega arith))
 
@@ -82,9 +82,9 @@ sound-record s p =
     rw (
       le-leb 1 (s .count) (p .count),
       le-leb (s .top) 52 (p .top),
-      sound-held (s .count) (s .high) (p .high),
-      sound-held (s .count) (s .middle) (p .middle),
-      sound-held (s .count) (s .low) (p .low),
+      sound-total (s .count) (s .high) (p .high),
+      sound-total (s .count) (s .middle) (p .middle),
+      sound-total (s .count) (s .low) (p .low),
       none-below 1 (s .top) (s .middle) (p .second),
     )
     (none-below 2 (s .top) (s .low) (p .third))

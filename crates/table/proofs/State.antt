@@ -9,7 +9,7 @@ use lib.ListN.{length, take, drop, length-map}
 use Rattle.codec.specs.Cells.{cells, image}
 use Rattle.codec.proofs.Laws.{AreBytes, drop-bytes, take-bytes, numberAt-lt}
 use Rattle.codec.proofs.Cells.{length-cells, cells-take, image-cells}
-use Rattle.level.proofs.Carry.{held-total}
+use Rattle.level.proofs.Carry.{split-total}
 use Rattle.record.specs.declared.Record.{Record}
 use Rattle.record.specs.Layout.{decode, encode, records, capacity}
 use Rattle.record.specs.Keys.{keys, rising}
@@ -41,9 +41,9 @@ section-proper r k t =
 pub record-meaning : (r : Record) → T (soundRecord r) → recordOf (meaning r) ≡ r
 record-meaning r t =
     let p = sound-record-parts r t in
-    let h = held-total (r .high) (residue-bound (r .count) (r .high) (p .high)) in
-    let m = held-total (r .middle) (residue-bound (r .count) (r .middle) (p .middle)) in
-    let l = held-total (r .low) (residue-bound (r .count) (r .low) (p .low)) in
+    let h = split-total (r .high) (residue-bound (r .count) (r .high) (p .high)) in
+    let m = split-total (r .middle) (residue-bound (r .count) (r .middle) (p .middle)) in
+    let l = split-total (r .low) (residue-bound (r .count) (r .low) (p .low)) in
     λ i. record { key = r .key; count = r .count; top = r .top; zero = sym (p .zero) i; high = h i; middle = m i; low = l i }
 
 -- ---- the records of a table

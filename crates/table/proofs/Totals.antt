@@ -8,35 +8,35 @@ use native.Mathlib.Decide.{decLe}
 use native.Mathlib.Omega.{arith}
 use borrow.Author.Tests.{eq-eqb, ne-eqb, le-leb, lt-leb}
 use lib.IntN.{ℤ, pos, _+ℤ_}
-use Rattle.level.specs.declared.Held.{Held}
+use Rattle.level.specs.declared.SplitTotal.{SplitTotal}
 use Rattle.level.specs.Level.{below}
-use Rattle.level.specs.Carry.{heldOf, totalOf, InRange}
+use Rattle.level.specs.Carry.{splitOf, totalOf, InRange}
 use Rattle.record.specs.declared.Record.{Record}
 use Rattle.record.specs.Sound.{soundRecord}
 use Rattle.record.specs.Section.{Section, meaning}
-use Rattle.record.proofs.Parts.{Empty, SoundParts, sound-record-parts, held-range}
+use Rattle.record.proofs.Parts.{Empty, SoundParts, sound-record-parts, total-range}
 use Rattle.table.specs.Combine.{levelOf}
-use Rattle.table.specs.Steps.{heldIn, bothAt}
+use Rattle.table.specs.Steps.{splitIn, bothAt}
 
 -- ---- what a record holds at level j
-pub held-level : (r : Record) (j : ℕ) → totalOf (heldIn r j) ≡ levelOf (meaning r) j
+pub split-level : (r : Record) (j : ℕ) → totalOf (splitIn r j) ≡ levelOf (meaning r) j
 unfolding levelOf
-held-level r j = by (eqb j (r .top)) (eqb (j + 1) (r .top)) (eqb (j + 2) (r .top))
+split-level r j = by (eqb j (r .top)) (eqb (j + 1) (r .top)) (eqb (j + 2) (r .top))
   where
-    by : (a b c : Bool) → totalOf (cond a (r .high) (cond b (r .middle) (cond c (r .low) (heldOf (pos 0)))))
+    by : (a b c : Bool) → totalOf (cond a (r .high) (cond b (r .middle) (cond c (r .low) (splitOf (pos 0)))))
         ≡ cond a (totalOf (r .high)) (cond b (totalOf (r .middle)) (cond c (totalOf (r .low)) (pos 0)))
     by true b c = refl
     by false true c = refl
     by false false true = refl
     by false false false = refl
 
-pub held-in-range : (r : Record) (j : ℕ) → r .count < 2 ^ 32 → T (soundRecord r) → InRange (heldIn r j)
-held-in-range r j h t =
+pub split-in-range : (r : Record) (j : ℕ) → r .count < 2 ^ 32 → T (soundRecord r) → InRange (splitIn r j)
+split-in-range r j h t =
     let p = sound-record-parts r t in
     by (eqb j (r .top)) (eqb (j + 1) (r .top)) (eqb (j + 2) (r .top))
-    (held-range (r .count) (r .high) (p .high) h) (held-range (r .count) (r .middle) (p .middle) h) (held-range (r .count) (r .low) (p .low) h)
+    (total-range (r .count) (r .high) (p .high) h) (total-range (r .count) (r .middle) (p .middle) h) (total-range (r .count) (r .low) (p .low) h)
   where
-    by : (a b c : Bool) → InRange (r .high) → InRange (r .middle) → InRange (r .low) → InRange (cond a (r .high) (cond b (r .middle) (cond c (r .low) (heldOf (pos 0)))))
+    by : (a b c : Bool) → InRange (r .high) → InRange (r .middle) → InRange (r .low) → InRange (cond a (r .high) (cond b (r .middle) (cond c (r .low) (splitOf (pos 0)))))
     by true b c x y z = x
     by false true c x y z = y
     by false false true x y z = z
@@ -63,7 +63,7 @@ module _ (a b : Record) (e : a .top ≡ b .top) (p : SoundParts a) (q : SoundPar
   abbrev both : ℕ → ℤ
   both = bothAt (meaning a) (meaning b)
 
-  empty-both : (x y : Held) → Empty x → Empty y → totalOf x +ℤ totalOf y ≡ pos 0
+  empty-both : (x y : SplitTotal) → Empty x → Empty y → totalOf x +ℤ totalOf y ≡ pos 0
   empty-both x y f g = rw (f .0, f .1, g .0, g .1)
 
   pub same-top-high : below both t 0 ≡ totalOf (a .high) +ℤ totalOf (b .high)

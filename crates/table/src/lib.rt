@@ -4,15 +4,15 @@ ghost use Prim.Native.Nat.{_+_, _≤_, _<_, _^_, max};
 ghost use lib.Dec.{T};
 ghost use lib.IntN.{pos, _+ℤ_};
 ghost use Rattle.level.specs.Level.{below};
-ghost use Rattle.level.specs.Carry.{heldOf};
+ghost use Rattle.level.specs.Carry.{splitOf};
 ghost use Rattle.record.specs.Sound.{soundRecord};
 ghost use Rattle.record.specs.Section.{meaning, recordOf};
 ghost use Rattle.table.specs.Combine.{ofRow, levelOf, combine};
 ghost use Rattle.table.specs.Calls.{columnOutcome};
 ghost use Rattle.table.specs.Answer.{checkAnswer};
-ghost use Rattle.table.specs.Steps.{heldIn, bothAt};
+ghost use Rattle.table.specs.Steps.{splitIn, bothAt};
 use columns::Kind;
-use level::Held;
+use level::SplitTotal;
 use record::Record;
 use refusal::Refusal;
 
@@ -55,19 +55,19 @@ pub fn check_columns(
 }
 
 // A level that holds nothing.
-fn nothing() -> Held
-    ensures { λ h. ⌜ h ≡ heldOf (pos 0) ⌝ }
+fn nothing() -> SplitTotal
+    ensures { λ h. ⌜ h ≡ splitOf (pos 0) ⌝ }
 {
-    Held {
+    SplitTotal {
         residue: 0,
         carry: 0,
     }
 }
 
 // What a record holds at level j.
-fn held_at(r: Record, j: u32) -> Held
+fn total_at(r: Record, j: u32) -> SplitTotal
     requires { ⌜ j ≤ 52 ⌝ }
-    ensures { λ h. ⌜ h ≡ heldIn r j ⌝ }
+    ensures { λ h. ⌜ h ≡ splitIn r j ⌝ }
 {
     if j == r.top {
         let high = r.high;
@@ -84,17 +84,17 @@ fn held_at(r: Record, j: u32) -> Held
     nothing()
 }
 
-// What two records hold together d levels below level t; below level 0 there is nothing.
-fn held_below(a: Record, b: Record, t: u32, d: u32) -> Held
+// What two records split together d levels below level t; below level 0 there is nothing.
+fn total_below(a: Record, b: Record, t: u32, d: u32) -> SplitTotal
     requires { ⌜ t ≤ 52 ⌝ }
     requires { ⌜ T (soundRecord a) ⌝ }
     requires { ⌜ T (soundRecord b) ⌝ }
-    ensures { λ h. ⌜ h ≡ heldOf (below (bothAt (meaning a) (meaning b)) t d) ⌝ }
+    ensures { λ h. ⌜ h ≡ splitOf (below (bothAt (meaning a) (meaning b)) t d) ⌝ }
 {
     if t < d {
         return nothing();
     }
-    level::add_held(held_at(a, t - d), held_at(b, t - d))
+    level::add_totals(total_at(a, t - d), total_at(b, t - d))
 }
 
 fn larger(x: u32, y: u32) -> u32
@@ -115,9 +115,9 @@ pub fn combined_same_top(a: Record, b: Record) -> Record
         count: a.count + b.count,
         top: a.top,
         zero: 0,
-        high: level::add_held(a.high, b.high),
-        middle: level::add_held(a.middle, b.middle),
-        low: level::add_held(a.low, b.low),
+        high: level::add_totals(a.high, b.high),
+        middle: level::add_totals(a.middle, b.middle),
+        low: level::add_totals(a.low, b.low),
     }
 }
 
@@ -135,9 +135,9 @@ pub fn combined_by_level(a: Record, b: Record) -> Record
         count,
         top: t,
         zero: 0,
-        high: held_below(a, b, t, 0),
-        middle: held_below(a, b, t, 1),
-        low: held_below(a, b, t, 2),
+        high: total_below(a, b, t, 0),
+        middle: total_below(a, b, t, 1),
+        low: total_below(a, b, t, 2),
     }
 }
 
@@ -167,8 +167,8 @@ pub fn row_record(key: u32, bits: u64) -> Record
         count: 1,
         top: c.top,
         zero: 0,
-        high: level::hold(c.high),
-        middle: level::hold(c.middle),
-        low: level::hold(c.low),
+        high: level::split(c.high),
+        middle: level::split(c.middle),
+        low: level::split(c.low),
     }
 }

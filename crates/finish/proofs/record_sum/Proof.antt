@@ -7,7 +7,7 @@ use borrow.Author.Tests.{eqb-true, eqb-false}
 use lib.IntN.{ℤ, natAbs}
 use lib.Signed.{nonNeg}
 use Rattle.record.specs.Section.{kept, meaning}
-use Rattle.record.proofs.Parts.{sound-record-parts, held-range}
+use Rattle.record.proofs.Parts.{sound-record-parts, total-range}
 use Rattle.limbs.specs.Limbs.{valueOf}
 use Rattle.limbs.specs.Packed.{packed}
 use Rattle.finish.specs.Steps.{sumOfBits}
@@ -35,7 +35,7 @@ raised-limbs-requires : tie.Need-raised-limbs-requires
 raised-limbs-requires c κs =
     let r = c .args .r in
     let p = sound-record-parts r (c .pre) in
-    (held-range (r .count) (r .high) (p .high) (few c), (held-range (r .count) (r .middle) (p .middle) (few c), held-range (r .count) (r .low) (p .low) (few c)))
+    (total-range (r .count) (r .high) (p .high) (few c), (total-range (r .count) (r .middle) (p .middle) (few c), total-range (r .count) (r .low) (p .low) (few c)))
 
 raise-requires : tie.Need-raise-requires
 raise-requires c κs = search needs

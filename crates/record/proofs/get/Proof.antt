@@ -26,23 +26,23 @@ add-u32-at-3 c = search needs
 u32-at-requires-4 : tie.Need-u32-at-requires-4
 u32-at-requires-4 c κs = search needs
 
-add-get-held : tie.Need-add-get-held
-add-get-held c = search needs
+add-get-total : tie.Need-add-get-total
+add-get-total c = search needs
 
-get-held-requires : tie.Need-get-held-requires
-get-held-requires c κs = search needs
+get-total-requires : tie.Need-get-total-requires
+get-total-requires c κs = search needs
 
-add-get-held-2 : tie.Need-add-get-held-2
-add-get-held-2 c = search needs
+add-get-total-2 : tie.Need-add-get-total-2
+add-get-total-2 c = search needs
 
-get-held-requires-2 : tie.Need-get-held-requires-2
-get-held-requires-2 c κs = search needs
+get-total-requires-2 : tie.Need-get-total-requires-2
+get-total-requires-2 c κs = search needs
 
-add-get-held-3 : tie.Need-add-get-held-3
-add-get-held-3 c = search needs
+add-get-total-3 : tie.Need-add-get-total-3
+add-get-total-3 c = search needs
 
-get-held-requires-3 : tie.Need-get-held-requires-3
-get-held-requires-3 c κs = search needs
+get-total-requires-3 : tie.Need-get-total-requires-3
+get-total-requires-3 c κs = search needs
 
 returns : tie.Need-returns
 returns c = cc
@@ -59,10 +59,10 @@ get-spec =
     u32-at-requires-3
     add-u32-at-3
     u32-at-requires-4
-    add-get-held
-    get-held-requires
-    add-get-held-2
-    get-held-requires-2
-    add-get-held-3
-    get-held-requires-3
+    add-get-total
+    get-total-requires
+    add-get-total-2
+    get-total-requires-2
+    add-get-total-3
+    get-total-requires-3
     returns)

@@ -29,23 +29,23 @@ add-put-u32-3 c = search needs
 put-u32-requires-4 : tie.Need-put-u32-requires-4
 put-u32-requires-4 c κs = search needs
 
-add-put-held : tie.Need-add-put-held
-add-put-held c = search needs
+add-put-total : tie.Need-add-put-total
+add-put-total c = search needs
 
-put-held-requires : tie.Need-put-held-requires
-put-held-requires c κs = search needs
+put-total-requires : tie.Need-put-total-requires
+put-total-requires c κs = search needs
 
-add-put-held-2 : tie.Need-add-put-held-2
-add-put-held-2 c = search needs
+add-put-total-2 : tie.Need-add-put-total-2
+add-put-total-2 c = search needs
 
-put-held-requires-2 : tie.Need-put-held-requires-2
-put-held-requires-2 c κs = search needs
+put-total-requires-2 : tie.Need-put-total-requires-2
+put-total-requires-2 c κs = search needs
 
-add-put-held-3 : tie.Need-add-put-held-3
-add-put-held-3 c = search needs
+add-put-total-3 : tie.Need-add-put-total-3
+add-put-total-3 c = search needs
 
-put-held-requires-3 : tie.Need-put-held-requires-3
-put-held-requires-3 c κs = search needs
+put-total-requires-3 : tie.Need-put-total-requires-3
+put-total-requires-3 c κs = search needs
 
 same-length : tie.Need-same-length
 same-length c = search needs
@@ -64,7 +64,7 @@ returns c =
     let p1 = p2 .before .before .before .before in
     let a = p1 .before .before .before .args in (
       stored (a .t .now) (a .i * 64) (a .r) (p1 .put-u32 .ensures) (p2 .put-u322 .ensures) (p3 .put-u323 .ensures) (p4 .put-u324 .ensures)
-          (p5 .put-held .ensures) (p6 .put-held2 .ensures) (p7 .put-held3 .ensures),
+          (p5 .put-total .ensures) (p6 .put-total2 .ensures) (p7 .put-total3 .ensures),
       decode-encode (a .r) (in-range (p1 .before .before .before)),
     )
 
@@ -80,11 +80,11 @@ put-spec =
     put-u32-requires-3
     add-put-u32-3
     put-u32-requires-4
-    add-put-held
-    put-held-requires
-    add-put-held-2
-    put-held-requires-2
-    add-put-held-3
-    put-held-requires-3
+    add-put-total
+    put-total-requires
+    add-put-total-2
+    put-total-requires-2
+    add-put-total-3
+    put-total-requires-3
     same-length
     returns)

@@ -3,7 +3,7 @@ use mathlib.Core.Path.{_≡_}
 use mathlib.Core.Bool.{Bool, _&&_, _||_}
 use lib.Dec.{leb, eqb}
 use Rattle.record.specs.declared.Record.{Record}
-use Rattle.record.specs.Sound.{soundHeld, isZero, soundRecord}
+use Rattle.record.specs.Sound.{soundTotal, isZero, soundRecord}
 use borrow.Author.Needs.{needs}
 use Rattle.record.proofs.record_sound.Statement.{statement}
 use Rattle.record.proofs.record_sound.Tie as tie
@@ -14,20 +14,20 @@ both-requires c κs = search needs
 both-requires-2 : tie.Need-both-requires-2
 both-requires-2 c κs = search needs
 
-held-sound-requires : tie.Need-held-sound-requires
-held-sound-requires c κs = search needs
+total-sound-requires : tie.Need-total-sound-requires
+total-sound-requires c κs = search needs
 
 both-requires-3 : tie.Need-both-requires-3
 both-requires-3 c κs = search needs
 
-held-sound-requires-2 : tie.Need-held-sound-requires-2
-held-sound-requires-2 c κs = search needs
+total-sound-requires-2 : tie.Need-total-sound-requires-2
+total-sound-requires-2 c κs = search needs
 
 both-requires-4 : tie.Need-both-requires-4
 both-requires-4 c κs = search needs
 
-held-sound-requires-3 : tie.Need-held-sound-requires-3
-held-sound-requires-3 c κs = search needs
+total-sound-requires-3 : tie.Need-total-sound-requires-3
+total-sound-requires-3 c κs = search needs
 
 both-requires-5 : tie.Need-both-requires-5
 both-requires-5 c κs = search needs
@@ -55,11 +55,11 @@ joined :
     (r : Record) {counted head high highs middle middles low levels none free freed none′ free′ all : Bool} →
     counted ≡ (leb 1 (r .count) && leb (r .top) 52) →
     head ≡ counted && eqb (r .zero) 0 →
-    high ≡ soundHeld (r .count) (r .high) →
+    high ≡ soundTotal (r .count) (r .high) →
     highs ≡ head && high →
-    middle ≡ soundHeld (r .count) (r .middle) →
+    middle ≡ soundTotal (r .count) (r .middle) →
     middles ≡ highs && middle →
-    low ≡ soundHeld (r .count) (r .low) →
+    low ≡ soundTotal (r .count) (r .low) →
     levels ≡ middles && low →
     none ≡ isZero (r .middle) →
     free ≡ leb 1 (r .top) || none →
@@ -87,11 +87,11 @@ returns c =
     joined (start .args .r)
     (after-head .before .before .both .ensures)
     (after-head .both2 .ensures)
-    (after-high .held-sound .ensures)
+    (after-high .total-sound .ensures)
     (after-highs .both3 .ensures)
-    (after-middle .held-sound2 .ensures)
+    (after-middle .total-sound2 .ensures)
     (after-middles .both4 .ensures)
-    (after-low .held-sound3 .ensures)
+    (after-low .total-sound3 .ensures)
     (after-levels .both5 .ensures)
     (after-free .before .is-zero .ensures)
     (after-free .either .ensures)
@@ -106,11 +106,11 @@ record-sound-spec =
     (tie.spec
     both-requires
     both-requires-2
-    held-sound-requires
+    total-sound-requires
     both-requires-3
-    held-sound-requires-2
+    total-sound-requires-2
     both-requires-4
-    held-sound-requires-3
+    total-sound-requires-3
     both-requires-5
     is-zero-requires
     either-requires

@@ -6,7 +6,7 @@ use Rattle.refusal.specs.Number.{numberOf}
 use Rattle.columns.specs.declared.Kind.the-variants.{Double}
 use Rattle.table.specs.Answer.{tableAnswer}
 use Rattle.table.specs.Calls.{addOutcome}
-use Rattle.report.specs.Text.{emptyTable}
+use Rattle.report.specs.Text.{tableSize, emptyTable}
 use Rattle.report.proofs.Whole.{columns-left, columns-accepted, columns-refused}
 use borrow.Author.Needs.{needs}
 use Rattle.report.proofs.print_columns.Statement.{statement}
@@ -15,7 +15,7 @@ use Rattle.report.proofs.print_columns.Tie as tie
 bytes : (d : tie.After-shared-slice-known) → AreBytes (d .before .before .args .keys .now)
 bytes d i = d .shared-slice-known .given i .fits
 
-outcome-is : (d : tie.After-add) → addOutcome Double emptyTable 0 (d .before .before .before .before .before .before .args .keys .now) (d .before .before .before .before .before .before .args .values .now) 4096 ≡ tableAnswer (d .add .result)
+outcome-is : (d : tie.After-add) → addOutcome Double emptyTable 0 (d .before .before .before .before .before .before .args .keys .now) (d .before .before .before .before .before .before .args .values .now) tableSize ≡ tableAnswer (d .add .result)
 outcome-is d = sym (d .add .ensures .0)
 
 slice-aggregate-add : tie.Need-slice-aggregate-add

@@ -3,9 +3,9 @@ use Prim.Native.Nat.{ℕ, _+_, _≤_, max}
 use mathlib.Core.Path.{_≡_}
 use native.Mathlib.Omega.{arith}
 use borrow.Author.Needs.{needs}
-use Rattle.level.specs.declared.Held.{Held}
+use Rattle.level.specs.declared.SplitTotal.{SplitTotal}
 use Rattle.level.specs.Level.{below}
-use Rattle.level.specs.Carry.{heldOf}
+use Rattle.level.specs.Carry.{splitOf}
 use Rattle.record.specs.declared.Record.{Record}
 use Rattle.record.specs.Section.{meaning, recordOf}
 use Rattle.record.proofs.Parts.{sound-record-parts}
@@ -26,22 +26,22 @@ top-within c =
     let q = sound-record-parts (c .args .b) (c .pre .1 .0) in
     omega (arith, p .top, q .top)
 
-held-below-requires : tie.Need-held-below-requires
-held-below-requires c κs = let s = c .before .before .before in (omega (arith, top-within s, c .before .before .larger .ensures), (s .pre .0, s .pre .1 .0))
+total-below-requires : tie.Need-total-below-requires
+total-below-requires c κs = let s = c .before .before .before in (omega (arith, top-within s, c .before .before .larger .ensures), (s .pre .0, s .pre .1 .0))
 
-held-below-requires-2 : tie.Need-held-below-requires-2
-held-below-requires-2 c κs = let s = c .before .before .before .before in (omega (arith, top-within s, c .before .before .before .larger .ensures), (s .pre .0, s .pre .1 .0))
+total-below-requires-2 : tie.Need-total-below-requires-2
+total-below-requires-2 c κs = let s = c .before .before .before .before in (omega (arith, top-within s, c .before .before .before .larger .ensures), (s .pre .0, s .pre .1 .0))
 
-held-below-requires-3 : tie.Need-held-below-requires-3
-held-below-requires-3 c κs = let s = c .before .before .before .before .before in (omega (arith, top-within s, c .before .before .before .before .larger .ensures), (s .pre .0, s .pre .1 .0))
+total-below-requires-3 : tie.Need-total-below-requires-3
+total-below-requires-3 c κs = let s = c .before .before .before .before .before in (omega (arith, top-within s, c .before .before .before .before .larger .ensures), (s .pre .0, s .pre .1 .0))
 
 -- the fields in the code's order; each equation is asked of its own call
 joined :
-    (a b : Record) {t : ℕ} {high middle low : Held} →
+    (a b : Record) {t : ℕ} {high middle low : SplitTotal} →
     t ≡ max (a .top) (b .top) →
-    high ≡ heldOf (below (bothAt (meaning a) (meaning b)) t 0) →
-    middle ≡ heldOf (below (bothAt (meaning a) (meaning b)) t 1) →
-    low ≡ heldOf (below (bothAt (meaning a) (meaning b)) t 2) →
+    high ≡ splitOf (below (bothAt (meaning a) (meaning b)) t 0) →
+    middle ≡ splitOf (below (bothAt (meaning a) (meaning b)) t 1) →
+    low ≡ splitOf (below (bothAt (meaning a) (meaning b)) t 2) →
     record { key = a .key; count = a .count + b .count; top = t; zero = 0; high = high; middle = middle; low = low } ≡ recordOf (combine (meaning a) (meaning b))
 unfolding combine
 joined a b e h m l = rw (h, m, l, e)
@@ -49,7 +49,7 @@ joined a b e h m l = rw (h, m, l, e)
 returns : tie.Need-returns
 returns c =
     let s = c .before .before .before .before .before .before in
-    joined (s .args .a) (s .args .b) (c .before .before .before .before .before .larger .ensures) (c .before .before .held-below .ensures) (c .before .held-below2 .ensures) (c .held-below3 .ensures)
+    joined (s .args .a) (s .args .b) (c .before .before .before .before .before .larger .ensures) (c .before .before .total-below .ensures) (c .before .total-below2 .ensures) (c .total-below3 .ensures)
 
 pub combined-by-level-spec : {M : Type 1} → statement M
 combined-by-level-spec =
@@ -57,7 +57,7 @@ combined-by-level-spec =
     (tie.spec
     larger-requires
     add-count
-    held-below-requires
-    held-below-requires-2
-    held-below-requires-3
+    total-below-requires
+    total-below-requires-2
+    total-below-requires-3
     returns)

@@ -4,9 +4,9 @@ use mathlib.Core.Path.{_≡_, sym, ap, _∙_}
 use native.Mathlib.Omega.{arith}
 use borrow.Author.Needs.{needs}
 use Rattle.level.specs.Level.{below}
-use Rattle.level.specs.Carry.{heldOf}
+use Rattle.level.specs.Carry.{splitOf}
 use Rattle.record.specs.Section.{meaning}
-use Rattle.record.proofs.Parts.{SoundParts, sound-record-parts, held-range}
+use Rattle.record.proofs.Parts.{SoundParts, sound-record-parts, total-range}
 use Rattle.table.specs.Combine.{combine}
 use Rattle.table.specs.Steps.{bothAt}
 use Rattle.table.proofs.Totals.{same-top-high, same-top-middle, same-top-low}
@@ -22,25 +22,25 @@ parts c = (sound-record-parts (c .args .a) (c .pre .0), sound-record-parts (c .a
 add-t3 : tie.Need-add-t3
 add-t3 c = search needs
 
-add-held-requires : tie.Need-add-held-requires
-add-held-requires c κs =
+add-totals-requires : tie.Need-add-totals-requires
+add-totals-requires c κs =
     let s = c .before .before in
-    let x = held-range (s .args .a .count) (s .args .a .high) (parts s .0 .high) (few s .0) in
-    let y = held-range (s .args .b .count) (s .args .b .high) (parts s .1 .high) (few s .1) in
+    let x = total-range (s .args .a .count) (s .args .a .high) (parts s .0 .high) (few s .0) in
+    let y = total-range (s .args .b .count) (s .args .b .high) (parts s .1 .high) (few s .1) in
     omega (arith, x, y)
 
-add-held-requires-2 : tie.Need-add-held-requires-2
-add-held-requires-2 c κs =
+add-totals-requires-2 : tie.Need-add-totals-requires-2
+add-totals-requires-2 c κs =
     let s = c .before .before .before in
-    let x = held-range (s .args .a .count) (s .args .a .middle) (parts s .0 .middle) (few s .0) in
-    let y = held-range (s .args .b .count) (s .args .b .middle) (parts s .1 .middle) (few s .1) in
+    let x = total-range (s .args .a .count) (s .args .a .middle) (parts s .0 .middle) (few s .0) in
+    let y = total-range (s .args .b .count) (s .args .b .middle) (parts s .1 .middle) (few s .1) in
     omega (arith, x, y)
 
-add-held-requires-3 : tie.Need-add-held-requires-3
-add-held-requires-3 c κs =
+add-totals-requires-3 : tie.Need-add-totals-requires-3
+add-totals-requires-3 c κs =
     let s = c .before .before .before .before in
-    let x = held-range (s .args .a .count) (s .args .a .low) (parts s .0 .low) (few s .0) in
-    let y = held-range (s .args .b .count) (s .args .b .low) (parts s .1 .low) (few s .1) in
+    let x = total-range (s .args .a .count) (s .args .a .low) (parts s .0 .low) (few s .0) in
+    let y = total-range (s .args .b .count) (s .args .b .low) (parts s .1 .low) (few s .1) in
     omega (arith, x, y)
 
 returns : tie.Need-returns
@@ -51,11 +51,11 @@ returns c =
     let b = s .args .b in
     let e = s .pre .1 .1 .0 in
     let t : a .top ≡ max (a .top) (b .top) = omega arith in
-    let h = c .before .before .add-held .ensures ∙ ap heldOf (sym (same-top-high a b e (parts s .0) (parts s .1)) ∙ ap (λ (n : ℕ). below (bothAt (meaning a) (meaning b)) n 0) t) in
-    let m = c .before .add-held2 .ensures ∙ ap heldOf (sym (same-top-middle a b e (parts s .0) (parts s .1)) ∙ ap (λ (n : ℕ). below (bothAt (meaning a) (meaning b)) n 1) t) in
-    let l = c .add-held3 .ensures ∙ ap heldOf (sym (same-top-low a b e (parts s .0) (parts s .1)) ∙ ap (λ (n : ℕ). below (bothAt (meaning a) (meaning b)) n 2) t) in
+    let h = c .before .before .add-totals .ensures ∙ ap splitOf (sym (same-top-high a b e (parts s .0) (parts s .1)) ∙ ap (λ (n : ℕ). below (bothAt (meaning a) (meaning b)) n 0) t) in
+    let m = c .before .add-totals2 .ensures ∙ ap splitOf (sym (same-top-middle a b e (parts s .0) (parts s .1)) ∙ ap (λ (n : ℕ). below (bothAt (meaning a) (meaning b)) n 1) t) in
+    let l = c .add-totals3 .ensures ∙ ap splitOf (sym (same-top-low a b e (parts s .0) (parts s .1)) ∙ ap (λ (n : ℕ). below (bothAt (meaning a) (meaning b)) n 2) t) in
     λ i. record { key = a .key; count = a .count + b .count; top = t i; zero = 0; high = h i; middle = m i; low = l i }
 
 pub combined-same-top-spec : {M : Type 1} → statement M
 combined-same-top-spec =
-    tie.close (tie.spec add-t3 add-held-requires add-held-requires-2 add-held-requires-3 returns)
+    tie.close (tie.spec add-t3 add-totals-requires add-totals-requires-2 add-totals-requires-3 returns)

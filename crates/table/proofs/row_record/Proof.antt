@@ -5,7 +5,7 @@ use mir.Syntax.{w64}
 use mir.Val.{SFits}
 use mir.ValLaws.{toZ-ofZ}
 use Rattle.level.specs.declared.Contributions.{Contributions}
-use Rattle.level.specs.Carry.{heldOf}
+use Rattle.level.specs.Carry.{splitOf}
 use Rattle.table.specs.Combine.{ofRow}
 use Rattle.table.proofs.row_record.Statement.{statement}
 use Rattle.table.proofs.row_record.Tie as tie
@@ -13,14 +13,14 @@ use Rattle.table.proofs.row_record.Tie as tie
 contributions-of-requires : tie.Need-contributions-of-requires
 contributions-of-requires c κs = search needs
 
-hold-requires : tie.Need-hold-requires
-hold-requires c κs = search needs
+split-requires : tie.Need-split-requires
+split-requires c κs = search needs
 
-hold-requires-2 : tie.Need-hold-requires-2
-hold-requires-2 c κs = search needs
+split-requires-2 : tie.Need-split-requires-2
+split-requires-2 c κs = search needs
 
-hold-requires-3 : tie.Need-hold-requires-3
-hold-requires-3 c κs = search needs
+split-requires-3 : tie.Need-split-requires-3
+split-requires-3 c κs = search needs
 
 in-range : (c : tie.After-contributions-of) → SFits w64 (c .contributions-of .result .high) × SFits w64 (c .contributions-of .result .middle) × SFits w64 (c .contributions-of .result .low)
 in-range c = search needs
@@ -31,12 +31,12 @@ returns c =
     let p = c .before .before .before .before .before .before in
     let r = p .contributions-of .result in
     let e = p .contributions-of .ensures in
-    let high = c .before .before .before .before .hold .ensures ∙ ap heldOf (toZ-ofZ w64 (r .high) (in-range p .0) ∙ ap (λ (x : Contributions). x .high) e) in
-    let middle = c .before .before .hold2 .ensures ∙ ap heldOf (toZ-ofZ w64 (r .middle) (in-range p .1) ∙ ap (λ (x : Contributions). x .middle) e) in
-    let low = c .hold3 .ensures ∙ ap heldOf (toZ-ofZ w64 (r .low) (in-range p .2) ∙ ap (λ (x : Contributions). x .low) e) in
+    let high = c .before .before .before .before .split .ensures ∙ ap splitOf (toZ-ofZ w64 (r .high) (in-range p .0) ∙ ap (λ (x : Contributions). x .high) e) in
+    let middle = c .before .before .split2 .ensures ∙ ap splitOf (toZ-ofZ w64 (r .middle) (in-range p .1) ∙ ap (λ (x : Contributions). x .middle) e) in
+    let low = c .split3 .ensures ∙ ap splitOf (toZ-ofZ w64 (r .low) (in-range p .2) ∙ ap (λ (x : Contributions). x .low) e) in
     λ i. record { key = p .before .args .key; count = 1; top = e i .top; zero = 0; high = high i; middle = middle i; low = low i }
 
 pub row-record-spec : {M : Type 1} → statement M
 row-record-spec =
     tie.close
-    (tie.spec contributions-of-requires hold-requires hold-requires-2 hold-requires-3 returns)
+    (tie.spec contributions-of-requires split-requires split-requires-2 split-requires-3 returns)

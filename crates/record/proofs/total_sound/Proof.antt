@@ -6,11 +6,11 @@ use borrow.Author.Tests.{lt-ltb, le-ltb}
 use mir.Syntax.{w64}
 use mir.Val.{ofZ, SFits}
 use Rattle.codec.proofs.Laws.{turned, low-half, sign-known}
-use Rattle.record.specs.Sound.{soundHeld}
+use Rattle.record.specs.Sound.{soundTotal}
 use Rattle.record.proofs.Sound.{size-negative, size-positive}
 use borrow.Author.Needs.{needs}
-use Rattle.record.proofs.held_sound.Statement.{statement}
-use Rattle.record.proofs.held_sound.Tie as tie
+use Rattle.record.proofs.total_sound.Statement.{statement}
+use Rattle.record.proofs.total_sound.Tie as tie
 
 in-range : (c : tie.Start) → SFits w64 (c .args .x .carry)
 in-range c = search needs
@@ -27,7 +27,7 @@ at-most-requires : tie.Need-at-most-requires
 at-most-requires c κs = search needs
 
 returns : tie.Need-returns
-unfolding soundHeld
+unfolding soundTotal
 returns c =
     let a = c .before .before .before .before in
     let x = a .args .x in
@@ -45,7 +45,7 @@ at-most-requires-2 : tie.Need-at-most-requires-2
 at-most-requires-2 c κs = search needs
 
 returns-2 : tie.Need-returns-2
-unfolding soundHeld
+unfolding soundTotal
 returns-2 c =
     let a = c .before .before .before .before in
     let x = a .args .x in
@@ -53,11 +53,11 @@ returns-2 c =
     c .at-most2 .ensures ∙ rw (lt-ltb (x .residue) (2 ^ 50) (c .before .before .if1 .taken), e) refl
 
 returns-3 : tie.Need-returns-3
-unfolding soundHeld
+unfolding soundTotal
 returns-3 c = rw (le-ltb (c .before .before .args .x .residue) (2 ^ 50) (c .if1 .left))
 
-pub held-sound-spec : {M : Type 1} → statement M
-held-sound-spec =
+pub total-sound-spec : {M : Type 1} → statement M
+total-sound-spec =
     tie.close
     (tie.spec
     cast-at-most

@@ -1,4 +1,4 @@
--- `add_held` adds two kept totals: the residues' sum gives the new residue, and its carry goes to the carries.
+-- `add_totals` adds two kept totals: the residues' sum gives the new residue, and its carry goes to the carries.
 use mathlib.Core.Path.{_≡_, sym, ap, ap₂, _∙_}
 use Prim.Native.Nat.{ℕ, _+_, _/_, _^_, _<_}
 use native.Mathlib.Omega.{arith}
@@ -8,9 +8,9 @@ use mir.Val.{toZ, ofZ}
 use mir.ValLaws.{toZ-ofZ}
 use lib.IntN.{ℤ, pos, natAbs, _+ℤ_}
 use Rattle.integers.proofs.Laws.{natAbs-+ℤ, back}
-use Rattle.level.proofs.Carry.{held-sum}
-use Rattle.level.proofs.add_held.Statement.{statement}
-use Rattle.level.proofs.add_held.Tie as tie
+use Rattle.level.proofs.Carry.{split-sum}
+use Rattle.level.proofs.add_totals.Statement.{statement}
+use Rattle.level.proofs.add_totals.Tie as tie
 
 -- the sum of the two carries, and of that and the residues' carry
 module _ (x y p o : ℤ) (n : ℕ) (hx : natAbs x < 2 ^ 61) (hy : natAbs y < 2 ^ 61) (ep : p ≡ toZ w64 (ofZ w64 x) +ℤ toZ w64 (ofZ w64 y)) (eo : o ≡ pos n) (hn : n < 2 ^ 60) where
@@ -56,10 +56,10 @@ returns c =
     toZ-ofZ w64 (c .plus2 .result) (record { sfits = c .plus2 .ok }) ∙ c .plus2 .ensures
     ∙ second (s .args .a .carry) (s .args .b .carry) (p .result) (o .result) ((s .args .a .residue + s .args .b .residue) / 2 ^ 50)
     (s .pre .2) (s .pre .3) (p .ensures) (o .ensures) (omega arith) in
-    (λ i. record { residue = residue i; carry = carry i }) ∙ sym (held-sum (s .args .a) (s .args .b))
+    (λ i. record { residue = residue i; carry = carry i }) ∙ sym (split-sum (s .args .a) (s .args .b))
 
-pub add-held-spec : {M : Type 1} → statement M
-add-held-spec =
+pub add-totals-spec : {M : Type 1} → statement M
+add-totals-spec =
     tie.close
     (tie.spec
     add-sum

@@ -4,8 +4,8 @@ use mir.ValLaws.{toZ-ofZ}
 use Rattle.codec.specs.Bytes.{bytes}
 use Rattle.codec.proofs.Laws.{length-bytes, sets-then}
 use borrow.Author.Needs.{needs}
-use Rattle.record.proofs.put_held.Statement.{statement}
-use Rattle.record.proofs.put_held.Tie as tie
+use Rattle.record.proofs.put_total.Statement.{statement}
+use Rattle.record.proofs.put_total.Tie as tie
 
 put-u64-requires : tie.Need-put-u64-requires
 put-u64-requires c κs = search needs
@@ -26,6 +26,6 @@ returns c =
     sets-then (a .t .now) (a .at) 8 (bytes 8 (a .x .residue)) (bytes 8 (ofZ w64 (a .x .carry)))
     (c .before .before .before .before .before .before .before .put-u64 .ensures) (length-bytes 8 (a .x .residue)) (rw (toZ-ofZ w64 (a .x .carry) f) at (c .before .before .put-i64 .ensures))
 
-pub put-held-spec : {M : Type 1} → statement M
-put-held-spec =
+pub put-total-spec : {M : Type 1} → statement M
+put-total-spec =
     tie.close (tie.spec put-u64-requires add-put-i64 put-i64-requires same-length returns)

@@ -1,8 +1,8 @@
 use mir.Syntax.{w64}
 use mir.ValLaws.{toZ-ofZ}
 use borrow.Author.Needs.{needs}
-use Rattle.record.proofs.get_held.Statement.{statement}
-use Rattle.record.proofs.get_held.Tie as tie
+use Rattle.record.proofs.get_total.Statement.{statement}
+use Rattle.record.proofs.get_total.Tie as tie
 
 u64-at-requires : tie.Need-u64-at-requires
 u64-at-requires c κs = search needs
@@ -16,5 +16,5 @@ i64-at-requires c κs = search needs
 returns : tie.Need-returns
 returns c = cc (toZ-ofZ w64 (c .i64-at .result) (search needs))
 
-pub get-held-spec : {M : Type 1} → statement M
-get-held-spec = tie.close (tie.spec u64-at-requires add-i64-at i64-at-requires returns)
+pub get-total-spec : {M : Type 1} → statement M
+get-total-spec = tie.close (tie.spec u64-at-requires add-i64-at i64-at-requires returns)

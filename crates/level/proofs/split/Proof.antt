@@ -4,8 +4,8 @@ use mir.Syntax.{w64}
 use mir.Val.{SFits}
 use mir.ValLaws.{toZ-ofZ}
 use Rattle.level.specs.Carry.{carryOf, residueOf}
-use Rattle.level.proofs.hold.Statement.{statement}
-use Rattle.level.proofs.hold.Tie as tie
+use Rattle.level.proofs.split.Statement.{statement}
+use Rattle.level.proofs.split.Tie as tie
 
 residue-of-requires : tie.Need-residue-of-requires
 residue-of-requires c κs = search needs
@@ -23,5 +23,5 @@ returns c =
     let carry = toZ-ofZ w64 (c .carry-of .result) (in-range c) ∙ c .carry-of .ensures ∙ ap carryOf total in
     λ i. record { residue = residue i; carry = carry i }
 
-pub hold-spec : {M : Type 1} → statement M
-hold-spec = tie.close (tie.spec residue-of-requires carry-of-requires returns)
+pub split-spec : {M : Type 1} → statement M
+split-spec = tie.close (tie.spec residue-of-requires carry-of-requires returns)

@@ -1,10 +1,10 @@
--- `held_at` goes through the three levels, as the definition does.
+-- `total_at` goes through the three levels, as the definition does.
 use Prim.Native.Nat.{_+_}
 use mathlib.Core.Path.{refl}
 use borrow.Author.Needs.{needs}
 use borrow.Author.Tests.{eq-eqb, ne-eqb}
-use Rattle.table.proofs.held_at.Statement.{statement}
-use Rattle.table.proofs.held_at.Tie as tie
+use Rattle.table.proofs.total_at.Statement.{statement}
+use Rattle.table.proofs.total_at.Tie as tie
 
 returns : tie.Need-returns
 returns c = let a = c .before .before .before .args in rw (eq-eqb (a .j) (a .r .top) (c .before .if1 .taken))
@@ -33,6 +33,6 @@ returns-4 c =
     let a = c .before .before .before .before .before .before .before .args in
     rw (ne-eqb (a .j) (a .r .top) (c .before .before .before .before .before .if1 .left), ne-eqb (a .j + 1) (a .r .top) (c .before .before .before .if2 .left), ne-eqb (a .j + 2) (a .r .top) (c .before .if3 .left)) (c .nothing .ensures)
 
-pub held-at-spec : {M : Type 1} → statement M
-held-at-spec =
+pub total-at-spec : {M : Type 1} → statement M
+total-at-spec =
     tie.close (tie.spec returns add-if2 returns-2 add-if3 returns-3 nothing-requires returns-4)

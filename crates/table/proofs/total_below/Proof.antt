@@ -1,0 +1,53 @@
+-- `total_below` adds what the two records hold at the level.
+use Prim.Native.Nat.{_-_, _^_, _<_}
+use mathlib.Core.Path.{ap, ap₂, _∙_}
+use native.Mathlib.Omega.{arith}
+use borrow.Author.Needs.{needs}
+use borrow.Author.Tests.{le-leb, lt-leb}
+use lib.IntN.{_+ℤ_}
+use Rattle.level.specs.Carry.{splitOf, totalOf}
+use Rattle.table.proofs.Totals.{split-level, split-in-range}
+use Rattle.table.proofs.total_below.Statement.{statement}
+use Rattle.table.proofs.total_below.Tie as tie
+
+nothing-requires : tie.Need-nothing-requires
+nothing-requires c κs = search needs
+
+returns : tie.Need-returns
+returns c = let a = c .before .before .args in rw (lt-leb (a .d) (a .t) (c .before .if1 .taken)) (c .nothing .ensures)
+
+total-at-requires : tie.Need-total-at-requires
+total-at-requires c κs = search needs
+
+total-at-requires-2 : tie.Need-total-at-requires-2
+total-at-requires-2 c κs = search needs
+
+few : (c : tie.Start) → (c .args .a .count < 2 ^ 32) × (c .args .b .count < 2 ^ 32)
+few c = search needs
+
+add-totals-requires : tie.Need-add-totals-requires
+add-totals-requires c κs =
+    let s = c .before .before .before in
+    let j = s .args .t - s .args .d in
+    let x = split-in-range (s .args .a) j (few s .0) (s .pre .1 .0) in
+    let y = split-in-range (s .args .b) j (few s .1) (s .pre .1 .1) in
+    rw (c .before .total-at .ensures, c .total-at2 .ensures) (x .0, y .0, omega arith, omega arith)
+
+returns-2 : tie.Need-returns-2
+returns-2 c =
+    let s = c .before .before .before .before in
+    let j = s .args .t - s .args .d in
+    rw (le-leb (s .args .d) (s .args .t) (omega arith))
+    (c .add-totals .ensures
+    ∙ ap splitOf (ap₂ _+ℤ_ (ap totalOf (c .before .before .total-at .ensures) ∙ split-level (s .args .a) j) (ap totalOf (c .before .total-at2 .ensures) ∙ split-level (s .args .b) j)))
+
+pub total-below-spec : {M : Type 1} → statement M
+total-below-spec =
+    tie.close
+    (tie.spec
+    nothing-requires
+    returns
+    total-at-requires
+    total-at-requires-2
+    add-totals-requires
+    returns-2)
