@@ -1,5 +1,5 @@
 -- `check_columns` makes the tests of 7 to 10 in their order.
-use mathlib.Core.Path.{_≡_, sym, _∙_}
+use mathlib.Core.Path.{_≡_, refl, sym, _∙_}
 use mathlib.Core.Bool.{true, false}
 use borrow.Author.Needs.{needs}
 use borrow.Author.Tests.{not-true, not-false, lt-ltb, le-ltb}
@@ -31,13 +31,13 @@ is-sound-requires c κs = search needs
 
 returns : tie.Need-returns
 unfolding columnGrounds
-returns c = rw (← c .before .is-sound .ensures, not-true (c .before .is-sound .result) (c .if1 .taken))
+returns c = rw (← c .before .is-sound .ensures, not-true (c .before .is-sound .result) (c .if1 .taken)) refl
 
 returns-2 : tie.Need-returns-2
 unfolding columnGrounds
 returns-2 c =
     let a = start (c .before) .args in
-    rw (sound-here (c .before), lt-ltb (a .work) (length (a .table .now)) (c .if2 .taken))
+    rw (sound-here (c .before), lt-ltb (a .work) (length (a .table .now)) (c .if2 .taken)) refl
 
 columns-fit-requires : tie.Need-columns-fit-requires
 columns-fit-requires c κs = search needs
@@ -46,7 +46,7 @@ returns-3 : tie.Need-returns-3
 unfolding columnGrounds
 returns-3 c =
     let d = c .before .before in
-    rw (sound-here (d .before), long-here d, ← c .before .columns-fit .ensures, not-true (c .before .columns-fit .result) (c .if3 .taken))
+    rw (sound-here (d .before), long-here d, ← c .before .columns-fit .ensures, not-true (c .before .columns-fit .result) (c .if3 .taken)) refl
 
 any-not-finite-requires : tie.Need-any-not-finite-requires
 any-not-finite-requires c κs = search needs
@@ -64,6 +64,7 @@ returns-4 c =
       ← c .before .any-not-finite .ensures,
       c .if4 .taken,
     )
+    refl
 
 returns-5 : tie.Need-returns-5
 unfolding columnGrounds
@@ -78,6 +79,7 @@ returns-5 c =
       ← c .before .any-not-finite .ensures,
       c .if4 .left,
     )
+    refl
 
 pub check-columns-spec : {M : Type 1} → statement M
 check-columns-spec =
