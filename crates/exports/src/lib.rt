@@ -40,8 +40,10 @@ pub extern "C" fn girth_read(file: &[u8], keys_at: &mut u64, values_at: &mut u64
     ensures keys { λ _. ⌜ now («keys_at» .exit) ≡ keyStart Double (now (file .entry)) ⌝ }
     ensures values { λ _. ⌜ now («values_at» .exit) ≡ valueStart Double (now (file .entry)) ⌝ }
 {
-    *keys_at = patch::key_start(file) as u64;
-    *values_at = patch::value_start(file) as u64;
+    let keys = patch::key_start(file) as u64;
+    let values = patch::value_start(file) as u64;
+    *keys_at = keys;
+    *values_at = values;
     match patch::read(file) {
         Reading::Rows(n) => n as i64,
         Reading::Refused(r) => minus(r),
