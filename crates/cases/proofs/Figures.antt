@@ -1,4 +1,4 @@
--- One claim over the whole benchFigures, by computing.
+-- One claim over the whole list, by computing.
 use mathlib.Core.Path.{_≡_, refl}
 use mathlib.Core.List.{map}
 use lib.Ieee.{add, ofBits, toBits, round}

@@ -1,2 +1,2 @@
--- The benchFigures's figures are those of the definitions.
+-- The bench book's figures are those of the definitions.
 pub mod Figures

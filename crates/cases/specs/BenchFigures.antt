@@ -10,7 +10,7 @@ use Rattle.record.specs.Section.{Section, find}
 use Rattle.table.specs.Combine.{added}
 use Rattle.finish.specs.Finish.{sumOf, figureOf}
 
--- a figure of the benchFigures
+-- a figure of the bench book
 pub data Figure : Type 0 where
   -- the top and the three totals
   totals : ℕ → ℤ → ℤ → ℤ → Figure
@@ -37,9 +37,9 @@ unfoldable pub section : List ℕ → Option Section
 section bs = find 1 (added [] (map (λ (b : ℕ). record { key = 1; bits = b }) bs))
 
 -- the bits of an accepted sum
-abbrev pub bitsOf : Outcome Float → Outcome ℕ
-bitsOf (accepted x) = accepted (toBits binary64 x)
-bitsOf (refused n) = refused n
+abbrev pub sumBits : Outcome Float → Outcome ℕ
+sumBits (accepted x) = accepted (toBits binary64 x)
+sumBits (refused n) = refused n
 
 -- doubles added from left to right
 unfoldable pub addedUp : Float → List ℕ → Float
@@ -56,7 +56,7 @@ abbrev pub of : Option Section → List ℕ → Figure → Figure
 of o bs (totals a b c d) = totals (there o .top) (there o .high) (there o .middle) (there o .low)
 of o bs (first a b) = first (there o .top) (there o .high)
 of o bs (split a b) = split (residueOf (there o .high)) (carryOf (there o .high))
-of o bs (sum a) = sum (bitsOf (sumOf o))
+of o bs (sum a) = sum (sumBits (sumOf o))
 of o bs (mill a) = mill (figureOf o)
 of o bs (leftToRight a) = leftToRight (toBits binary64 (addedUp (ofBits binary64 0) bs))
 
@@ -64,7 +64,7 @@ of o bs (leftToRight a) = leftToRight (toBits binary64 (addedUp (ofBits binary64
 abbrev pub computed : Case → Figure
 computed c = of (section (c .rows)) (c .rows) (c .figure)
 
--- ---- the benchFigures
+-- ---- the figures
 
 abbrev one : ℕ
 one = 0x3FF0000000000000

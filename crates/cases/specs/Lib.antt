@@ -1,2 +1,2 @@
--- Document 01's figures for the bench benchFigures.
+-- Document 01's figures for the bench book.
 pub mod BenchFigures

@@ -37,8 +37,8 @@ abbrev pub Lent : Store → List ℕ → ℕ → Type 0
 Lent t b g = (t .bytes ≡ b) × (t .groups ≡ g)
 
 -- the state after a call that returns o and leaves the bytes b in table i
-abbrev pub returned : State → ℕ → Outcome ℕ → List ℕ → State
-returned s i o b = setTable i (after o b (s .tables i .groups)) s
+abbrev pub stateLeft : State → ℕ → Outcome ℕ → List ℕ → State
+stateLeft s i o b = setTable i (after o b (s .tables i .groups)) s
 
 -- the five calls, each with its arguments a, its result z and what was lent, e, at its end; `Learnt` is its contract
 pub record Conforms : Type 0 where
@@ -52,7 +52,7 @@ pub record Conforms : Type 0 where
       let table′ = now (e .0) in
       let work′ = now (e .1 .1 .1 .1 .0) in
       Lent (s .tables i) table g → adds.Learnt κs a z e
-      → Steps s (add i Double keys values (length work)) (groupsAre (tableAnswer z)) (returned s i (tableAnswer z) table′) × (work′ ≡ cleared work)
+      → Steps s (add i Double keys values (length work)) (groupsAre (tableAnswer z)) (stateLeft s i (tableAnswer z) table′) × (work′ ≡ cleared work)
   -- merge::merge into table i of another table j, which is lent for reading
   pub of-merge : (s : State) (i j : ℕ) (apart : T (not (eqb i j)))
       (κs : Lfts 2) (a : Dens κs mergeKinds.ps) (z : resT mergeKinds.r κs .Denot) (e : AtExit (endedOf 2 mergeKinds.ps mergeKinds.r) κs)
@@ -62,7 +62,7 @@ pub record Conforms : Type 0 where
       let g2 = a .1 .1 .1 .0 in
       let first′ = now (e .0) in
       Lent (s .tables i) first g1 → Lent (s .tables j) second g2 → merges.Learnt κs a z e
-      → Steps s (merge i j apart) (groupsAre (tableAnswer z)) (returned s i (tableAnswer z) first′)
+      → Steps s (merge i j apart) (groupsAre (tableAnswer z)) (stateLeft s i (tableAnswer z) first′)
   -- finish::sum, figure and line of a section in table i, which is lent for reading
   pub of-sum : (s : State) (i : ℕ) (κs : Lfts 1) (a : Dens κs sumKinds.ps) (z : resT sumKinds.r κs .Denot) (e : AtExit (endedOf 1 sumKinds.ps sumKinds.r) κs)
       → let table = now (a .0) in

@@ -12,7 +12,7 @@ use lib.Ieee.Bits.{ofBits-toBits, toBits-lt, is-true}
 use lib.Ieee.Exact.{HasValue}
 use lib.Ieee.Scale as Scale
 use Rattle.refusal.specs.Outcome.{accepted, refused}
-use Rattle.level.specs.Double.{field, fraction, significand, size, negative, finite, signed}
+use Rattle.level.specs.Double.{field, fraction, significand, magnitude, negative, finiteBits, signed}
 use Rattle.level.proofs.Double.{significand-normal}
 use Rattle.level.proofs.Binary64.{finite-binary64, value-binary64}
 use Rattle.finish.specs.Figure.{millFigure, beyond}
@@ -41,12 +41,12 @@ number (fin s m e) h = tt
 
 -- a finite float, by its bits
 module _ (x : Float) (f : T (fits binary64 x)) (h : T (Scale.finite x)) where
-  pub bits-figure : millFigure x ≡ signed (negative (toBits binary64 x)) (figureSize (negative (toBits binary64 x)) (size (toBits binary64 x)))
+  pub bits-figure : millFigure x ≡ signed (negative (toBits binary64 x)) (figureSize (negative (toBits binary64 x)) (magnitude (toBits binary64 x)))
   bits-figure =
       let b = toBits binary64 x in
       let e = ofBits-toBits binary64 x f in
-      let g : finite b ≡ true = sym (finite-binary64 b) ∙ ap Scale.finite e ∙ is-true (Scale.finite x) h in
-      ap millFigure (sym e) ∙ value-figure (ofBits binary64 b) (negative b) (size b) (value-binary64 b (toBits-lt binary64 x f) g)
+      let g : finiteBits b ≡ true = sym (finite-binary64 b) ∙ ap Scale.finite e ∙ is-true (Scale.finite x) h in
+      ap millFigure (sym e) ∙ value-figure (ofBits binary64 b) (negative b) (magnitude b) (value-binary64 b (toBits-lt binary64 x f) g)
 
   -- where its field is at most 1074
   pub near-figure : (r : ℕ) → r + (field (toBits binary64 x) - 1) ≡ 1074
@@ -61,5 +61,5 @@ module _ (x : Float) (f : T (fits binary64 x)) (h : T (Scale.finite x)) where
       let b = toBits binary64 x in
       let k : 1074 ≤ field b - 1 = omega arith in
       let g : 2 ^ 52 ≤ significand b = le-trans (le-add-right (2 ^ 52) (fraction b)) (le-of-eq (sym (significand-normal b (λ z. lt-irrefl 0 (omega arith))))) in
-      let m : 2 ^ 1126 ≤ size b = le-trans (le-of-eq (pow-add 2 52 1074)) (mul-le-mul g (pow-mono k)) in
-      rw bits-figure (figure-beyond (negative b) (figureSize (negative b) (size b)) (far (λ (q : ℕ). not (negative b)) (size b) m))
+      let m : 2 ^ 1126 ≤ magnitude b = le-trans (le-of-eq (pow-add 2 52 1074)) (mul-le-mul g (pow-mono k)) in
+      rw bits-figure (figure-beyond (negative b) (figureSize (negative b) (magnitude b)) (far (λ (q : ℕ). not (negative b)) (magnitude b) m))

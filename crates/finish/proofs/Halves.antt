@@ -13,7 +13,7 @@ use lib.Ieee.{Float, binary64, toBits, fits}
 use lib.Ieee.Scale.{finite}
 use Rattle.integers.proofs.Diff.{ints, byParts₃}
 use Rattle.level.specs.Cut.{apart}
-use Rattle.level.specs.Double.{signed, negative, size, value}
+use Rattle.level.specs.Double.{signed, negative, magnitude, value}
 use Rattle.finish.specs.Figure.{HalfUp, millFigure}
 use Rattle.limbs.specs.Nearest.{nearestBy}
 use Rattle.limbs.proofs.Nearest.{le-or-lt, nearest-within}
@@ -61,7 +61,7 @@ size-within true n u p = let d = nearest-within (λ (q : ℕ). false) n u p in b
 figure-within : (x : Float) → T (fits binary64 x) → T (finite x) → Within (2 ^ 1074) (value (toBits binary64 x) *ℤ pos 100) (millFigure x)
 figure-within x f h =
     let b = toBits binary64 x in
-    rw (bits-figure x f h, signed-mul (negative b) (size b) 100) (size-within (negative b) (size b * 100) (2 ^ 1074) (pow-pos 1074))
+    rw (bits-figure x f h, signed-mul (negative b) (magnitude b) 100) (size-within (negative b) (magnitude b * 100) (2 ^ 1074) (pow-pos 1074))
 
 pub nearest-figure : (x : Float) → T (fits binary64 x) → T (finite x) → HalfUp (value (toBits binary64 x)) (millFigure x)
 nearest-figure x f h =

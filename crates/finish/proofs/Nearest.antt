@@ -18,14 +18,14 @@ use lib.Ieee.Fits.{down-pos, round-fits}
 use lib.Ieee.Exact.{HasValue}
 use lib.Ieee.Scale as Scale
 use Rattle.integers.proofs.Diff.{ints}
-use Rattle.level.specs.Double.{field, fraction, significand, size, negative, finite, signed, value}
+use Rattle.level.specs.Double.{field, fraction, significand, magnitude, negative, finiteBits, signed, value}
 use Rattle.level.specs.Cut.{apart}
 use Rattle.level.proofs.Signs.{sub-signed, natAbs-signed}
 use Rattle.level.proofs.Double.{significand-lt}
 use Rattle.level.proofs.Near.{pow-sum}
 use Rattle.level.proofs.Binary64.{finite-binary64, value-binary64}
 use Rattle.finish.specs.Sum.{limit, nearestDouble, tooLarge, Nearest}
-use Rattle.limbs.specs.Nearest.{odd, nearestBy}
+use Rattle.limbs.specs.Nearest.{isOdd, nearestBy}
 use Rattle.limbs.specs.Packed.{droppedDigits, significandOf, signBit}
 use Rattle.limbs.proofs.Nearest.{le-or-lt, Halfway, nearest-near, nearest-even}
 use Rattle.limbs.proofs.Packed.{reaches, packed-bits}
@@ -53,10 +53,10 @@ module _ (n u x y : ℕ) (p : 0 < u) (over : y * u * 2 ≤ n * 2 + u) (under : n
       (λ l. let m : suc y * u ≤ x * u = mul-le-mul-right u l in inr (omega arith))
       (le-or-lt x y)
 
-nearest-best : (n u x : ℕ) → 0 < u → Best n u x (nearestBy odd n u)
+nearest-best : (n u x : ℕ) → 0 < u → Best n u x (nearestBy isOdd n u)
 nearest-best n u x h =
-    let w = nearest-near odd n u h in
-    (near-best n u x (nearestBy odd n u) h (w .0) (w .1), λ d e. nearest-even n u h (half-best n u x (nearestBy odd n u) h (w .0) (w .1) d e))
+    let w = nearest-near isOdd n u h in
+    (near-best n u x (nearestBy isOdd n u) h (w .0) (w .1), λ d e. nearest-even n u h (half-best n u x (nearestBy isOdd n u) h (w .0) (w .1) d e))
 
 -- ---- among all m × 2^j with m of at most 53 digits
 
@@ -185,13 +185,13 @@ module _ (s : Bool) (n : ℕ) (h : n < limit) where
   back : ofBits binary64 bits ≡ x
   back = ofBits-toBits binary64 x (round-fits binary64 s n (2 ^ 1074))
 
-  bits-finite : finite bits ≡ true
+  bits-finite : finiteBits bits ≡ true
   bits-finite = sym (finite-binary64 bits) ∙ ap Scale.finite back ∙ is-true (Scale.finite x) (limit-number s n h)
 
-  bits-value : (negative bits ≡ s) × (size bits ≡ significandOf n * 2 ^ droppedDigits n)
+  bits-value : (negative bits ≡ s) × (magnitude bits ≡ significandOf n * 2 ^ droppedDigits n)
   bits-value =
-      unique x s (negative bits) (significandOf n * 2 ^ droppedDigits n) (size bits) (limit-value s n h)
-      (subst (λ (y : Float). HasValue y (negative bits) (size bits) (2 ^ 1074)) back (value-binary64 bits (toBits-lt binary64 x (round-fits binary64 s n (2 ^ 1074))) bits-finite))
+      unique x s (negative bits) (significandOf n * 2 ^ droppedDigits n) (magnitude bits) (limit-value s n h)
+      (subst (λ (y : Float). HasValue y (negative bits) (magnitude bits) (2 ^ 1074)) back (value-binary64 bits (toBits-lt binary64 x (round-fits binary64 s n (2 ^ 1074))) bits-finite))
 
   bits-even : significandOf n % 2 ≡ 0 → significand bits % 2 ≡ 0
   bits-even e = significand-even bits (ap (λ (b : ℕ). b % 2) (packed-bits s n (limit-finite n h)) ∙ packed-even s (droppedDigits n) (significandOf n) e)

@@ -6,7 +6,7 @@ use lib.Dec.{leb}
 use lib.IntN.{ℤ, natAbs, _-ℤ_}
 use lib.Signed.{nonNeg}
 use lib.Ieee.{Float, binary64, round}
-use Rattle.level.specs.Double.{finite, significand, value}
+use Rattle.level.specs.Double.{finiteBits, significand, value}
 
 -- the double nearest to k units, a tie going to the even significand
 unfoldable pub nearestDouble : ℤ → Float
@@ -23,6 +23,6 @@ tooLarge k = leb limit (natAbs k)
 -- what "nearest" means, apart from how it is found: the double with the bits b is finite, no finite double is nearer to k units, and where another
 -- one is as near, the significand of b is even
 pub record Nearest (k : ℤ) (b : ℕ) : Type 0 where
-  pub number : finite b ≡ true
-  pub near : (c : ℕ) → finite c ≡ true → natAbs (k -ℤ value b) ≤ natAbs (k -ℤ value c)
-  pub even : (c : ℕ) → finite c ≡ true → (value c ≡ value b → ⊥) → natAbs (k -ℤ value b) ≡ natAbs (k -ℤ value c) → significand b % 2 ≡ 0
+  pub number : finiteBits b ≡ true
+  pub near : (c : ℕ) → finiteBits c ≡ true → natAbs (k -ℤ value b) ≤ natAbs (k -ℤ value c)
+  pub even : (c : ℕ) → finiteBits c ≡ true → (value c ≡ value b → ⊥) → natAbs (k -ℤ value b) ≡ natAbs (k -ℤ value c) → significand b % 2 ≡ 0

@@ -3,7 +3,7 @@ use Prim.Native.Nat.{ℕ, _≤_}
 use Rattle.girths.specs.declared.Received.{Received}
 use Rattle.girths.specs.declared.Received.the-variants.{Bytes, Failed}
 
--- at most n
-abbrev pub Within : ℕ → Received → Type 0
-Within n (Bytes k) = k ≤ n
-Within n Failed = Unit {0}
+-- it gave at most n bytes
+abbrev pub AtMost : ℕ → Received → Type 0
+AtMost n (Bytes k) = k ≤ n
+AtMost n Failed = Unit {0}

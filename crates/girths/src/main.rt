@@ -5,7 +5,7 @@ use libc::STDOUT_FILENO;
 use report::Printed;
 ghost use Prim.Native.Nat.{_-_, _≤_};
 ghost use lib.ListN.{length};
-ghost use Rattle.girths.specs.Input.{Within};
+ghost use Rattle.girths.specs.Input.{AtMost};
 
 // How many bytes were read, or that a read failed.
 enum Received {
@@ -16,7 +16,7 @@ enum Received {
 // One read after the first done bytes.
 fn read_more(buffer: &mut [u8], done: usize) -> Received
     requires { ⌜ done ≤ length (now buffer) ⌝ }
-    ensures { λ r. ⌜ Within (length (now (buffer .entry)) - done) r ⌝ }
+    ensures { λ r. ⌜ AtMost (length (now (buffer .entry)) - done) r ⌝ }
 {
     let got = libc::read(STDIN_FILENO, &mut buffer[done..]);
     if got < 0 {
@@ -27,7 +27,7 @@ fn read_more(buffer: &mut [u8], done: usize) -> Received
 
 // Reads until the input ends or the buffer is full.
 fn read_all(buffer: &mut [u8]) -> Received
-    ensures { λ r. ⌜ Within (length (now (buffer .entry))) r ⌝ }
+    ensures { λ r. ⌜ AtMost (length (now (buffer .entry))) r ⌝ }
 {
     let mut done = 0;
     while done < buffer.len() {

@@ -11,7 +11,7 @@ use lib.Dec.{leb·zero}
 use lib.Pow.{pow-add}
 use lib.IntN.{ℤ, pos, _-ℤ_, _*ℤ_, natAbs, +ℤ-idl}
 use Rattle.integers.proofs.Diff.{ints, byParts₂}
-use Rattle.level.specs.Double.{size}
+use Rattle.level.specs.Double.{magnitude}
 use Rattle.level.specs.Level.{unit, top, levelSum, topOf, total, exactSum}
 use Rattle.level.proofs.Top.{top-least}
 use Rattle.level.proofs.Section.{section-near, section-whole}
@@ -45,13 +45,13 @@ top-large [] h = absurd (omega arith)
 top-large (b ∷ bs) h = go (top-large bs) (decLe (topOf bs) (top b))
   where
     go : (1 ≤ topOf bs → 2 ^ 39 * unit (topOf bs - 1) ≤ largest bs) → Dec (topOf bs ≤ top b)
-        → 2 ^ 39 * unit (max (top b) (topOf bs) - 1) ≤ max (size b) (largest bs)
+        → 2 ^ 39 * unit (max (top b) (topOf bs) - 1) ≤ max (magnitude b) (largest bs)
     go ih (yes l) =
         let m : max (top b) (topOf bs) ≡ top b = omega arith in
-        rw m (le-trans (top-least b .earlier (top b - 1) (omega arith) (omega arith)) (le-max-left (size b) (largest bs)))
+        rw m (le-trans (top-least b .earlier (top b - 1) (omega arith) (omega arith)) (le-max-left (magnitude b) (largest bs)))
     go ih (no l) =
         let m : max (top b) (topOf bs) ≡ topOf bs = omega arith in
-        rw m (le-trans (ih (omega arith)) (le-max-right (size b) (largest bs)))
+        rw m (le-trans (ih (omega arith)) (le-max-right (magnitude b) (largest bs)))
 
 unit-step : (t : ℕ) → 3 ≤ t → unit (t - 1) ≡ 2 ^ 40 * unit (t - 2)
 unit-step t h =

@@ -4,7 +4,7 @@ use mathlib.Core.Path.{_≡_}
 use mathlib.Core.Bool.{Bool, cond, _&&_}
 use mathlib.Core.List.{List, [], _∷_}
 use lib.Dec.{ltb, eqb}
-use Rattle.level.specs.Double.{size}
+use Rattle.level.specs.Double.{magnitude}
 use Rattle.columns.specs.Columns.{Row}
 
 -- two rows have the same number and the same bits
@@ -38,4 +38,4 @@ sectionNumbers (r ∷ rs) = insertKey (r .key) (sectionNumbers rs)
 -- the size of the largest row
 unfoldable pub largest : List ℕ → ℕ
 largest [] = 0
-largest (b ∷ bs) = max (size b) (largest bs)
+largest (b ∷ bs) = max (magnitude b) (largest bs)

@@ -11,7 +11,7 @@ use lib.Pow as Pow
 use lib.Ieee.{nan, inf, binary64, odd, ofFields, ofBits}
 use lib.Ieee.Exact.{HasValue, odd-sign}
 use lib.Ieee.Scale as Scale
-use Rattle.level.specs.Double.{negative, field, finite, size}
+use Rattle.level.specs.Double.{negative, field, finiteBits, magnitude}
 
 -- a nonzero number with a leading digit is finite, and so is every other
 odd-finite : (d : ℕ) (s : Bool) (q k l : ℕ) → Scale.finite (odd d s q k l) ≡ true
@@ -54,12 +54,12 @@ sign-bit b h =
     ]
 
 -- the patterns that are no infinity and no NaN are the finite ones
-pub finite-binary64 : (b : ℕ) → Scale.finite (ofBits binary64 b) ≡ finite b
+pub finite-binary64 : (b : ℕ) → Scale.finite (ofBits binary64 b) ≡ finiteBits b
 unfolding ofBits
 finite-binary64 b = fields-finite (leb (2 ^ 63) b) (b % 2 ^ 63 / 2 ^ 52) (b % 2 ^ 52) ∙ ap (λ (x : ℕ). not (eqb x 2047)) (Pow.field b 11 52)
 
 -- a finite pattern's float has its sign, and its size over 2^1074
-pub value-binary64 : (b : ℕ) → b < 2 ^ 64 → finite b ≡ true → HasValue (ofBits binary64 b) (negative b) (size b) (2 ^ 1074)
+pub value-binary64 : (b : ℕ) → b < 2 ^ 64 → finiteBits b ≡ true → HasValue (ofBits binary64 b) (negative b) (magnitude b) (2 ^ 1074)
 unfolding ofBits
 value-binary64 b h f =
     rw (sign-bit b h)

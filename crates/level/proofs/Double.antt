@@ -6,7 +6,7 @@ use native.Mathlib.Nat.{mul-one}
 use native.Mathlib.Omega.{arith}
 use lib.Dec.{eqb}
 use borrow.Author.Tests.{eq-eqb, ne-eqb}
-use Rattle.level.specs.Double.{field, fraction, significand, size}
+use Rattle.level.specs.Double.{field, fraction, significand, magnitude}
 
 pub significand-subnormal : (b : ℕ) → field b ≡ 0 → significand b ≡ fraction b
 significand-subnormal b e = rw (eq-eqb (field b) 0 e)
@@ -22,5 +22,5 @@ significand-lt b = go (eqb (field b) 0)
     go true = omega arith
     go false = omega arith
 
-pub size-subnormal : (b : ℕ) → field b ≡ 0 → size b ≡ fraction b
+pub size-subnormal : (b : ℕ) → field b ≡ 0 → magnitude b ≡ fraction b
 size-subnormal b e = rw (significand-subnormal b e, e) (mul-one (fraction b))

@@ -11,7 +11,7 @@ use lib.IntN.{ℤ, pos, negℤ, natAbs}
 use lib.Arith.{lt-one}
 use lib.Pow.{pow-mono, pow-add, shl-lt}
 use borrow.Author.Tests.{ltb-true, ltb-false}
-use Rattle.level.specs.Double.{negative, field, fraction, significand, size, value}
+use Rattle.level.specs.Double.{negative, field, fraction, significand, magnitude, value}
 use Rattle.level.specs.Level.{unit, topFrom, top, given, contribution}
 use Rattle.level.proofs.Double.{significand-lt, significand-normal, size-subnormal}
 use Rattle.integers.proofs.Laws.{natAbs-neg}
@@ -39,16 +39,16 @@ topFrom-least (suc k) j n h = go (ltb n (2 ^ 39 * unit j)) refl (topFrom-least k
               | inr m ↦ r .0 .earlier i m l
             ]
 
-size-lt : (b : ℕ) → size b < 2 ^ 39 * unit 52
+size-lt : (b : ℕ) → magnitude b < 2 ^ 39 * unit 52
 size-lt b = lt-of-lt-of-le (shl-lt 53 (field b - 1) (significand-lt b)) (le-trans (pow-mono {j = 2099} (omega arith)) (lit≤ tt))
 
-pub top-least : (b : ℕ) → Least 0 (size b) (top b)
+pub top-least : (b : ℕ) → Least 0 (magnitude b) (top b)
 unfolding top
-top-least b = topFrom-least 52 0 (size b) (size-lt b) .0
+top-least b = topFrom-least 52 0 (magnitude b) (size-lt b) .0
 
 pub top-le : (b : ℕ) → top b ≤ 52
 unfolding top
-top-le b = topFrom-least 52 0 (size b) (size-lt b) .1
+top-le b = topFrom-least 52 0 (magnitude b) (size-lt b) .1
 
 -- no other number is the smallest such level
 pub least-unique : (n s t : ℕ) → Least 0 n s → Least 0 n t → s ≡ t
@@ -75,14 +75,14 @@ unfolding contribution
 contribution-bound b j = given-bound (suc (top b)) (value b) j (row-half b)
 
 -- two rows of one size have one top, and of opposite values opposite contributions
-top-size : (b c : ℕ) → size b ≡ size c → top b ≡ top c
+top-size : (b c : ℕ) → magnitude b ≡ magnitude c → top b ≡ top c
 unfolding top
 top-size b c e = ap (topFrom 52 0) e
 
 pub contribution-neg : (b c j : ℕ) → value c ≡ negℤ (value b) → contribution c j ≡ negℤ (contribution b j)
 unfolding contribution
 contribution-neg b c j e =
-    let s : size c ≡ size b = sym (natAbs-signed (negative c) (size c)) ∙ ap natAbs e ∙ natAbs-neg (value b) ∙ natAbs-signed (negative b) (size b) in
+    let s : magnitude c ≡ magnitude b = sym (natAbs-signed (negative c) (magnitude c)) ∙ ap natAbs e ∙ natAbs-neg (value b) ∙ natAbs-signed (negative b) (magnitude b) in
     ap₂ (λ (t : ℕ) (z : ℤ). given (suc t) z j) (top-size c b s) e ∙ given-neg (suc (top b)) (value b) j
 
 -- ---- the top by the exponent field
@@ -90,15 +90,15 @@ units-pow : (j : ℕ) → 2 ^ 39 * unit j ≡ 2 ^ (39 + 40 * j)
 units-pow j = sym (pow-add 2 39 (40 * j))
 
 pub top-normal : (b : ℕ) → (field b ≡ 0 → ⊥) → top b ≡ (field b + 52) / 40
-top-normal b n = least-unique (size b) (top b) t (top-least b) (record { under = under; earlier = earlier })
+top-normal b n = least-unique (magnitude b) (top b) t (top-least b) (record { under = under; earlier = earlier })
   where
     t : ℕ
     t = (field b + 52) / 40
 
-    under : size b < 2 ^ 39 * unit t
+    under : magnitude b < 2 ^ 39 * unit t
     under = rw units-pow (lt-of-lt-of-le (shl-lt 53 (field b - 1) (significand-lt b)) (pow-mono (omega arith)))
 
-    earlier : (i : ℕ) → 0 ≤ i → i < t → 2 ^ 39 * unit i ≤ size b
+    earlier : (i : ℕ) → 0 ≤ i → i < t → 2 ^ 39 * unit i ≤ magnitude b
     earlier i _ l =
         let h : 2 ^ 52 ≤ significand b = rw (significand-normal b n) (omega arith) in
         rw units-pow
@@ -106,11 +106,11 @@ top-normal b n = least-unique (size b) (top b) t (top-least b) (record { under =
 
 pub top-small : (b : ℕ) → field b ≡ 0 → fraction b < 2 ^ 39 → top b ≡ 0
 top-small b e h =
-    least-unique (size b) (top b) 0 (top-least b) (record { under = rw (size-subnormal b e) h; earlier = λ i _ l. absurd (omega arith) })
+    least-unique (magnitude b) (top b) 0 (top-least b) (record { under = rw (size-subnormal b e) h; earlier = λ i _ l. absurd (omega arith) })
 
 pub top-subnormal : (b : ℕ) → field b ≡ 0 → 2 ^ 39 ≤ fraction b → top b ≡ 1
 top-subnormal b e h =
-    least-unique (size b) (top b) 1 (top-least b) (record { under = rw (size-subnormal b e) (omega arith); earlier = λ i _ l. rw (size-subnormal b e, lt-one l) h })
+    least-unique (magnitude b) (top b) 1 (top-least b) (record { under = rw (size-subnormal b e) (omega arith); earlier = λ i _ l. rw (size-subnormal b e, lt-one l) h })
 
 -- the unit of the top is 2^0 to 2^53 units of the significand's last digit
 pub top-place : (b : ℕ) → (field b - 1 ≤ 40 * top b) × (40 * top b ≤ 53 + (field b - 1))

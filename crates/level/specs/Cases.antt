@@ -1,37 +1,35 @@
--- The bench book's figures B1 to B7, from the definitions: one list, one claim. The rows are 1, -1, 31.5, 32, 96, and the bits of B6 and B7.
+-- Worked examples beside the bench book's, from the definitions: one list, one claim. Both zeros; 160 and -160, halves that go to the even number; a row that
+-- needs all three levels; 0.1; the largest row of top 26; the largest double and the pattern of infinity.
 use mathlib.Core.Path.{_≡_, refl}
 use mathlib.Core.List.{List, [], _∷_, map}
 use Prim.Native.Nat.{ℕ, _^_}
-use lib.IntN.{ℤ, pos, negsuc, negℤ}
+use lib.IntN.{ℤ, pos, negℤ}
 use Rattle.level.specs.Level.{top, contribution}
-use Rattle.level.specs.Carry.{splitOf}
 use Rattle.level.specs.Contributions.{contributionsOf}
 use Rattle.level.specs.declared.Contributions.{Contributions}
 
 rows : List ℕ
 rows =
-    0x3FF0000000000000 ∷ 0xBFF0000000000000 ∷ 0x403F800000000000 ∷ 0x4040000000000000 ∷ 0x4058000000000000 ∷ 1 ∷ 0x7FFFFFFFFF ∷ 0x8000000000 ∷ []
+    0 ∷ 0x8000000000000000 ∷ 0x4064000000000000 ∷ 0xC064000000000000 ∷ 0x3DC0000000000001 ∷ 0x3FB999999999999A ∷ 0x403FFFFFFFFFFFFF
+    ∷ 0x7FEFFFFFFFFFFFFF ∷ 0x7FF0000000000000 ∷ []
 
-abbrev part : ℕ → ℤ → ℤ → Contributions
-part t h m = record { top = t; high = h; middle = m; low = pos 0 }
+abbrev part : ℕ → ℤ → ℤ → ℤ → Contributions
+part t h m l = record { top = t; high = h; middle = m; low = l }
 
-figures : List Contributions
-figures =
-    part 26 (pos (2 ^ 34)) (pos 0)
-    ∷ part 26 (negℤ (pos (2 ^ 34))) (pos 0)
-    ∷ part 26 (pos 541165879296) (pos 0)
-    ∷ part 27 (pos 0) (pos (2 ^ 39))
-    ∷ part 27 (pos 2) (negℤ (pos (2 ^ 39)))
-    ∷ part 0 (pos 1) (pos 0)
-    ∷ part 0 (pos 549755813887) (pos 0)
-    ∷ part 1 (pos 0) (pos (2 ^ 39))
+-- what each of them gives
+given : List Contributions
+given =
+    part 0 (pos 0) (pos 0) (pos 0)
+    ∷ part 0 (pos 0) (pos 0) (pos 0)
+    ∷ part 27 (pos 2) (pos (2 ^ 39)) (pos 0)
+    ∷ part 27 (negℤ (pos 2)) (negℤ (pos (2 ^ 39))) (pos 0)
+    ∷ part 26 (pos 1) (negℤ (pos (2 ^ 39))) (pos (2 ^ 27))
+    ∷ part 26 (pos 1717986918) (pos 439804755968) (pos 0)
+    ∷ part 26 (pos (2 ^ 39)) (negℤ (pos (2 ^ 26))) (pos 0)
+    ∷ part 52 (pos (2 ^ 18)) (negℤ (pos 32)) (pos 0)
+    ∷ part 52 (pos (2 ^ 18)) (pos 0) (pos 0)
     ∷ []
 
-bench : map contributionsOf rows ≡ figures
-unfolding rows figures top contribution
-bench = refl
-
--- B2: the kept form of what the row -1 gives to its top
-minus-one : splitOf (contribution 0xBFF0000000000000 26) ≡ record { residue = 1125882726973440; carry = negsuc 0 }
-unfolding contribution
-minus-one = refl
+computed : map contributionsOf rows ≡ given
+unfolding rows given top contribution
+computed = refl

@@ -5,7 +5,7 @@ use mathlib.Core.List.{List, [], _∷_}
 use lib.Dec.{leb, ltb, eqb}
 use lib.IntN.{ℤ, pos, negsuc, negℤ, _+ℤ_, _-ℤ_, _*ℤ_}
 use lib.Ieee.Nearest.{closest}
-use Rattle.level.specs.Double.{size, value}
+use Rattle.level.specs.Double.{magnitude, value}
 
 -- the unit of level j
 abbrev pub unit : ℕ → ℕ
@@ -23,7 +23,7 @@ topFrom (suc k) j n = let later = topFrom k (suc j) n in cond (ltb n (levelBound
 -- the top of a row
 unfoldable pub top : ℕ → ℕ
 unfolding topFrom
-top b = topFrom 52 0 (size b)
+top b = topFrom 52 0 (magnitude b)
 
 -- the whole number nearest to z / u, an exact half going to the even number
 abbrev pub nearestTo : ℤ → ℕ → ℤ

@@ -3,7 +3,7 @@ ghost use mathlib.Core.Path.{_≡_};
 ghost use Prim.Native.Nat.{_+_, _-_, _*_, _%_, _^_, _<_, _≤_};
 ghost use lib.IntN.{natAbs, _+ℤ_};
 ghost use lib.Ieee.Nearest.{closest};
-ghost use Rattle.level.specs.Double.{field, fraction, finite, significand, negative, signed};
+ghost use Rattle.level.specs.Double.{field, fraction, finiteBits, significand, negative, signed};
 ghost use Rattle.level.specs.Level.{top};
 ghost use Rattle.level.specs.Cut.{shiftOf, restOf, roundedUp, flippedIf};
 ghost use Rattle.level.specs.Carry.{carryOf, residueOf, splitOf, totalOf};
@@ -42,7 +42,7 @@ pub fn is_negative(bits: u64) -> bool
 
 // Whether the bits are neither an infinity's nor a NaN's.
 pub fn is_finite(bits: u64) -> bool
-    ensures { λ r. ⌜ r ≡ finite bits ⌝ }
+    ensures { λ r. ⌜ r ≡ finiteBits bits ⌝ }
 {
     exponent_field(bits) != 2047
 }

@@ -9,7 +9,7 @@ use lib.ListN.{getD}
 use lib.Arith.{digits-mod}
 use lib.Pow.{pow-add, shr-lt}
 use Rattle.limbs.specs.Limbs.{valueOf, Normal}
-use Rattle.limbs.specs.Nearest.{odd, rounded}
+use Rattle.limbs.specs.Nearest.{isOdd, rounded}
 use Rattle.limbs.specs.Packed.{leadingDigits}
 use Rattle.limbs.proofs.Columns.{three-lt}
 use Rattle.limbs.proofs.Nearest.{order-same, nearest-at, nearest-le}
@@ -64,10 +64,10 @@ module _ (a : List ℕ) (n : Normal a) where
   pub lower-clear : getD a 1 0 + getD a 0 0 ≤ 0 → compare (getD a 2 0 % 2 ^ 27 * 2) (2 ^ 27) ≡ compare (valueOf a % 2 ^ 107 * 2) (2 ^ 107)
   lower-clear h = clear-same (getD a 0 0 + 2 ^ 40 * getD a 1 0) (getD a 2 0 % 2 ^ 27) (no-low (getD a 0 0) (getD a 1 0) h) ∙ ap (λ (x : ℕ). compare (x * 2) (2 ^ 107)) remainder
 
-  pub lead-nearest : rounded (odd (lead a)) (lead a) (compare (valueOf a % 2 ^ 107 * 2) (2 ^ 107)) ≡ leadingDigits a
+  pub lead-nearest : rounded (isOdd (lead a)) (lead a) (compare (valueOf a % 2 ^ 107 * 2) (2 ^ 107)) ≡ leadingDigits a
   lead-nearest =
-      ap (λ (x : ℕ). rounded (odd (lead a)) (lead a) (compare (x * 2) (2 ^ 107))) (sym remainder)
-      ∙ sym (nearest-at odd (valueOf a) (2 ^ 107) (lead a) (others a) lead-same others-lt)
+      ap (λ (x : ℕ). rounded (isOdd (lead a)) (lead a) (compare (x * 2) (2 ^ 107))) (sym remainder)
+      ∙ sym (nearest-at isOdd (valueOf a) (2 ^ 107) (lead a) (others a) lead-same others-lt)
 
 -- ---- how large a number is, from its last limb
 
@@ -85,4 +85,4 @@ value-ge a k h =
     (le-trans (mul-le-mul-left (2 ^ 120) h) (le-add-left (2 ^ 120 * getD a 3 0) (getD a 0 0 + 2 ^ 40 * getD a 1 0 + 2 ^ 80 * getD a 2 0)))
 
 pub leading-le : (a : List ℕ) → Normal a → leadingDigits a ≤ 2 ^ 53
-leading-le a n = le-trans (nearest-le odd (valueOf a) (2 ^ 107)) (shr-lt 53 107 (value-lt a 40 n (n .limb3)))
+leading-le a n = le-trans (nearest-le isOdd (valueOf a) (2 ^ 107)) (shr-lt 53 107 (value-lt a 40 n (n .limb3)))

@@ -11,7 +11,7 @@ use lib.Arith.{lt-of-le-ne, digits-div, digits-mod}
 use lib.Ieee.{nearest}
 use lib.Ieee.Fits.{eq→eqb}
 use lib.Ieee.Nearest.{closest, div-same}
-use Rattle.limbs.specs.Nearest.{rounded, nearestBy, odd}
+use Rattle.limbs.specs.Nearest.{rounded, nearestBy, isOdd}
 
 -- ---- the order of two numbers
 
@@ -126,7 +126,7 @@ not-one : (x : ℕ) → (x ≡ 1 → ⊥) → x < 2 → x ≡ 0
 not-one x f l = omega arith
 
 -- with halves to even it is the library's
-pub closest-odd : (n d : ℕ) → closest n d ≡ nearestBy odd n d
+pub closest-odd : (n d : ℕ) → closest n d ≡ nearestBy isOdd n d
 unfolding nearestBy
 closest-odd n d = by (n / d) (compare (n % d * 2) d)
   where
@@ -134,9 +134,9 @@ closest-odd n d = by (n / d) (compare (n % d * 2) d)
     tie q true h k = let e = h refl in omega arith
     tie q false h k = let e : q % 2 ≡ 0 = not-one (q % 2) (k refl) (omega arith) in omega arith
 
-    by : (q : ℕ) (o : Ordering) → nearest q o ≡ rounded (odd q) q o
+    by : (q : ℕ) (o : Ordering) → nearest q o ≡ rounded (isOdd q) q o
     by q Ordering·lt = refl
-    by q Ordering·eq = tie q (odd q) (eqb-true (q % 2) 1) (eqb-false (q % 2) 1)
+    by q Ordering·eq = tie q (isOdd q) (eqb-true (q % 2) 1) (eqb-false (q % 2) 1)
     by q Ordering·gt = refl
 
 -- ---- how near it is: z units d are at most half a unit from n, and at just half a unit above n where ties go up, else below
@@ -180,14 +180,14 @@ abbrev pub Halfway : ℕ → ℕ → ℕ → Type 0
 Halfway n d z = (z * d * 2 ≡ n * 2 + d) ⊎ (n * 2 ≡ z * d * 2 + d)
 
 -- with halves to even, an exact half gives an even number
-pub nearest-even : (n d : ℕ) → 0 < d → Halfway n d (nearestBy odd n d) → nearestBy odd n d % 2 ≡ 0
+pub nearest-even : (n d : ℕ) → 0 < d → Halfway n d (nearestBy isOdd n d) → nearestBy isOdd n d % 2 ≡ 0
 unfolding nearestBy
 nearest-even n d h =
     let r = n % d in
     let q = n / d in
-    subst (λ (m : ℕ). Halfway m d (rounded (odd q) q (compare (r * 2) d)) → rounded (odd q) q (compare (r * 2) d) % 2 ≡ 0) (div-add-mod' n d)
-    (order-cases (λ (o : Ordering). Halfway (q * d + r) d (rounded (odd q) q o) → rounded (odd q) q o % 2 ≡ 0) (r * 2) d
-    (λ l w. absurd (less q r l w)) (λ l w. even q (odd q) (eqb-true (q % 2) 1) (eqb-false (q % 2) 1)) (λ l w. absurd (more q r (mod-lt n h) l w)))
+    subst (λ (m : ℕ). Halfway m d (rounded (isOdd q) q (compare (r * 2) d)) → rounded (isOdd q) q (compare (r * 2) d) % 2 ≡ 0) (div-add-mod' n d)
+    (order-cases (λ (o : Ordering). Halfway (q * d + r) d (rounded (isOdd q) q o) → rounded (isOdd q) q o % 2 ≡ 0) (r * 2) d
+    (λ l w. absurd (less q r l w)) (λ l w. even q (isOdd q) (eqb-true (q % 2) 1) (eqb-false (q % 2) 1)) (λ l w. absurd (more q r (mod-lt n h) l w)))
   where
     less : (q r : ℕ) → r * 2 < d → Halfway (q * d + r) d q → ⊥
     less q r l (inl e) = omega arith

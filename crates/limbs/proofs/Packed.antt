@@ -15,7 +15,7 @@ use lib.Ieee.Fits.{down-pos, round-is, round-fits, kept-lt}
 use lib.Ieee.Exact.{HasValue, units-val}
 use lib.Ieee.Bits.{ofBits-toBits, cond-no}
 use lib.Ieee.Nearest.{closest, closest-same}
-use Rattle.limbs.specs.Nearest.{odd}
+use Rattle.limbs.specs.Nearest.{isOdd}
 use Rattle.limbs.specs.Packed.{droppedDigits, significandOf, packed, infinite, signBit}
 use Rattle.limbs.proofs.Nearest.{le-or-lt, nearest-ge, nearest-le, closest-odd}
 
@@ -97,7 +97,7 @@ kept-is q k h (inl z) = ⊎-elim (λ e. next q k e) (λ g. low g) (eq-or-lt-of-l
 -- ---- what rounding n units keeps
 
 pub significand-le : (n : ℕ) → significandOf n ≤ 2 ^ 53
-significand-le n = le-trans (nearest-le odd n (2 ^ droppedDigits n)) (kept-lt 53 n)
+significand-le n = le-trans (nearest-le isOdd n (2 ^ droppedDigits n)) (kept-lt 53 n)
 
 pub reaches : (n : ℕ) → 53 < size n → 2 ^ 52 ≤ n / 2 ^ droppedDigits n
 reaches n h =
@@ -105,7 +105,7 @@ reaches n h =
     le-div-iff-mul-le (pow-pos (droppedDigits n)) .1 (le-trans (le-of-eq (sym (pow-add 2 52 (droppedDigits n)))) (size-reaches n (52 + droppedDigits n) l))
 
 pub significand-ge : (n : ℕ) → (droppedDigits n ≡ 0) ⊎ (2 ^ 52 ≤ significandOf n)
-significand-ge n = ⊎-elim (λ h. inl (few (size n) h)) (λ h. inr (le-trans (reaches n h) (nearest-ge odd n (2 ^ droppedDigits n)))) (le-or-lt (size n) 53)
+significand-ge n = ⊎-elim (λ h. inl (few (size n) h)) (λ h. inr (le-trans (reaches n h) (nearest-ge isOdd n (2 ^ droppedDigits n)))) (le-or-lt (size n) 53)
 
 round-units : (s : Bool) (n : ℕ) → round binary64 s n (2 ^ 1074) ≡ units binary64 s (significandOf n) (droppedDigits n)
 round-units s n =

@@ -13,7 +13,7 @@ use lib.Ieee.{size}
 use lib.Ieee.Digits.{size-lt, size-reaches}
 use lib.Ieee.Positive.{first-pos}
 use Rattle.limbs.specs.Limbs.{valueOf, ShiftedLeft}
-use Rattle.limbs.specs.Nearest.{odd, nearestBy}
+use Rattle.limbs.specs.Nearest.{isOdd, nearestBy}
 use Rattle.limbs.specs.Packed.{droppedDigits, significandOf, packed, unitsOf, leadingDigits}
 use Rattle.limbs.proofs.Nearest.{nearest-same, nearest-whole}
 use Rattle.limbs.proofs.Leading.{value-lt, value-ge}
@@ -46,9 +46,9 @@ module _ (n w a b : ℕ) (e : n * 2 ^ b ≡ w * 2 ^ a) (lo : 2 ^ 159 ≤ w) (hi 
   scaled-size = omega (arith, size-low, size-high)
 
   -- where n has 53 digits or more, w's 53 leading ones are n's
-  same-significand : 107 + a ≡ droppedDigits n + b → significandOf n ≡ nearestBy odd w (2 ^ 107)
+  same-significand : 107 + a ≡ droppedDigits n + b → significandOf n ≡ nearestBy isOdd w (2 ^ 107)
   same-significand s =
-      nearest-same odd n (2 ^ droppedDigits n) w (2 ^ 107) (pow-pos (droppedDigits n)) (pow-pos 107)
+      nearest-same isOdd n (2 ^ droppedDigits n) w (2 ^ 107) (pow-pos (droppedDigits n)) (pow-pos 107)
       (eq-of-mul-eq-mul-right (2 ^ b) (pow-pos b) (n * 2 ^ 107) (w * 2 ^ droppedDigits n)
       (mul-right-comm n (2 ^ 107) (2 ^ b)
       ∙ ap (λ (x : ℕ). x * 2 ^ 107) e
@@ -56,14 +56,14 @@ module _ (n w a b : ℕ) (e : n * 2 ^ b ≡ w * 2 ^ a) (lo : 2 ^ 159 ≤ w) (hi 
       ∙ ap (λ (x : ℕ). w * x) (mul-comm (2 ^ a) (2 ^ 107) ∙ sym (pow-add 2 107 a) ∙ ap (λ (x : ℕ). 2 ^ x) s ∙ pow-add 2 (droppedDigits n) b)
       ∙ sym (mul-assoc w (2 ^ droppedDigits n) (2 ^ b))))
 
-  pub scaled-normal : b ≤ 107 + a → packed n ≡ (107 + a - b) * 2 ^ 52 + nearestBy odd w (2 ^ 107)
+  pub scaled-normal : b ≤ 107 + a → packed n ≡ (107 + a - b) * 2 ^ 52 + nearestBy isOdd w (2 ^ 107)
   scaled-normal h =
       let s : 107 + a ≡ droppedDigits n + b = omega (arith, scaled-size) in
       let d : droppedDigits n ≡ 107 + a - b = omega (arith, scaled-size) in
-      ap (λ (q : ℕ). droppedDigits n * 2 ^ 52 + q) (same-significand s) ∙ ap (λ (k : ℕ). k * 2 ^ 52 + nearestBy odd w (2 ^ 107)) d
+      ap (λ (q : ℕ). droppedDigits n * 2 ^ 52 + q) (same-significand s) ∙ ap (λ (k : ℕ). k * 2 ^ 52 + nearestBy isOdd w (2 ^ 107)) d
 
   -- where it has fewer, w is n with zeros after it
-  pub scaled-small : 107 + a < b → packed n ≡ nearestBy odd w (2 ^ 107) / 2 ^ (b - (107 + a))
+  pub scaled-small : 107 + a < b → packed n ≡ nearestBy isOdd w (2 ^ 107) / 2 ^ (b - (107 + a))
   scaled-small h =
       let g = b - (107 + a) in
       let d : droppedDigits n ≡ 0 = omega (arith, scaled-size) in
@@ -72,11 +72,11 @@ module _ (n w a b : ℕ) (e : n * 2 ^ b ≡ w * 2 ^ a) (lo : 2 ^ 159 ≤ w) (hi 
       eq-of-mul-eq-mul-right (2 ^ a) (pow-pos a) w (n * 2 ^ g * 2 ^ 107)
       (sym e ∙ ap (λ (y : ℕ). n * 2 ^ y) (sym s) ∙ ap (λ (y : ℕ). n * y) (pow-add 2 (g + 107) a ∙ ap (λ (y : ℕ). y * 2 ^ a) (pow-add 2 g 107)) ∙ sym (mul-assoc n (2 ^ g * 2 ^ 107) (2 ^ a)) ∙ ap (λ (y : ℕ). y * 2 ^ a) (sym (mul-assoc n (2 ^ g) (2 ^ 107))))
       in
-      ap (λ (k : ℕ). k * 2 ^ 52 + nearestBy odd n (2 ^ k)) d
-      ∙ zero-add (nearestBy odd n 1)
-      ∙ sym (ap (λ (y : ℕ). nearestBy odd y 1) (mul-one n))
-      ∙ nearest-whole odd n 1 (pow-pos 0)
-      ∙ sym (ap (λ (y : ℕ). nearestBy odd y (2 ^ 107) / 2 ^ g) x ∙ ap (λ (y : ℕ). y / 2 ^ g) (nearest-whole odd (n * 2 ^ g) (2 ^ 107) (pow-pos 107)) ∙ mul-div-cancel n (pow-pos g))
+      ap (λ (k : ℕ). k * 2 ^ 52 + nearestBy isOdd n (2 ^ k)) d
+      ∙ zero-add (nearestBy isOdd n 1)
+      ∙ sym (ap (λ (y : ℕ). nearestBy isOdd y 1) (mul-one n))
+      ∙ nearest-whole isOdd n 1 (pow-pos 0)
+      ∙ sym (ap (λ (y : ℕ). nearestBy isOdd y (2 ^ 107) / 2 ^ g) x ∙ ap (λ (y : ℕ). y / 2 ^ g) (nearest-whole isOdd (n * 2 ^ g) (2 ^ 107) (pow-pos 107)) ∙ mul-div-cancel n (pow-pos g))
 
 -- ---- of limbs times 2^t / 2^80, shifted left until their leading digit was set
 

@@ -4,11 +4,11 @@ use mathlib.Core.Bool.{Bool, cond}
 use mathlib.Core.List.{List}
 use lib.Ieee.{size}
 use Rattle.limbs.specs.Limbs.{valueOf}
-use Rattle.limbs.specs.Nearest.{nearestBy, odd}
+use Rattle.limbs.specs.Nearest.{nearestBy, isOdd}
 
 -- the 53 leading digits of 160, to the nearest number, an exact half to the even one
 abbrev pub leadingDigits : List ℕ → ℕ
-leadingDigits a = nearestBy odd (valueOf a) (2 ^ 107)
+leadingDigits a = nearestBy isOdd (valueOf a) (2 ^ 107)
 
 -- how many digits of n a double drops
 abbrev pub droppedDigits : ℕ → ℕ
@@ -16,7 +16,7 @@ droppedDigits n = size n - 53
 
 -- what a double keeps of n units: its leading digits, to the nearest number, an exact half to the even one
 abbrev pub significandOf : ℕ → ℕ
-significandOf n = nearestBy odd n (2 ^ droppedDigits n)
+significandOf n = nearestBy isOdd n (2 ^ droppedDigits n)
 
 -- the bits of the double nearest to n units, without the sign: the exponent field stands below the hidden digit, which adds one to it
 abbrev pub packed : ℕ → ℕ

@@ -64,12 +64,12 @@ fn without_bias(a: [u64; 4]) -> [u64; 4]
 }
 
 // How far two numbers are apart, and whether the second is the larger.
-pub struct Magnitude {
+pub struct SignedDistance {
     pub limbs: [u64; 4],
     pub negative: bool,
 }
 
-pub fn distance(p: [u64; 4], q: [u64; 4]) -> Magnitude
+pub fn distance(p: [u64; 4], q: [u64; 4]) -> SignedDistance
     requires { ⌜ Normal p ⌝ }
     requires { ⌜ Normal q ⌝ }
     ensures { λ r. ⌜ Normal (r .limbs) ⌝ }
@@ -77,12 +77,12 @@ pub fn distance(p: [u64; 4], q: [u64; 4]) -> Magnitude
 {
     let up = difference_with_bias(p, q);
     if up[3] >= LIMB {
-        return Magnitude {
+        return SignedDistance {
             limbs: without_bias(up),
             negative: false,
         };
     }
-    Magnitude {
+    SignedDistance {
         limbs: without_bias(difference_with_bias(q, p)),
         negative: true,
     }

@@ -1,6 +1,6 @@
 use mathlib.Core.Path.{_≡_, ap, _∙_}
 use Prim.Native.Nat.{_^_, compare, Ordering}
-use Rattle.limbs.specs.Nearest.{rounded, odd}
+use Rattle.limbs.specs.Nearest.{rounded, isOdd}
 use Rattle.limbs.proofs.Leading.{lead, lead-nearest}
 use borrow.Author.Needs.{needs}
 use Rattle.limbs.proofs.leading_digits.Statement.{statement}
@@ -28,8 +28,8 @@ returns : tie.Need-returns
 returns c =
     let s = c .before .before in
     let a = s .args .t1 in
-    let e : c .round .result ≡ rounded (odd (lead a)) (lead a) (compare (c .before .lower-digits .result) (2 ^ 27)) = c .round .ensures in
-    e ∙ ap (λ (o : Ordering). rounded (odd (lead a)) (lead a) o) (c .before .lower-digits .ensures .0) ∙ lead-nearest a (s .pre)
+    let e : c .round .result ≡ rounded (isOdd (lead a)) (lead a) (compare (c .before .lower-digits .result) (2 ^ 27)) = c .round .ensures in
+    e ∙ ap (λ (o : Ordering). rounded (isOdd (lead a)) (lead a) o) (c .before .lower-digits .ensures .0) ∙ lead-nearest a (s .pre)
 
 pub leading-digits-spec : {M : Type 1} → statement M
 leading-digits-spec =

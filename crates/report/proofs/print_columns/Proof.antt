@@ -1,5 +1,7 @@
 -- `print_columns` prints what the add to an empty table leaves, or its refusal.
 use mathlib.Core.Path.{_≡_, sym, ap, _∙_}
+use Prim.Native.Nat.{ℕ}
+use mathlib.Core.List.{List}
 use native.Mathlib.Omega.{arith}
 use Rattle.codec.proofs.Laws.{AreBytes}
 use Rattle.refusal.specs.Number.{numberOf}
@@ -12,11 +14,19 @@ use borrow.Author.Needs.{needs}
 use Rattle.report.proofs.print_columns.Statement.{statement}
 use Rattle.report.proofs.print_columns.Tie as tie
 
-bytes : (d : tie.After-shared-slice-known) → AreBytes (d .before .before .args .keys .now)
-bytes d i = d .shared-slice-known .given i .fits
+-- where the columns were added
+module _ (d : tie.After-add) where
+  abbrev keys : List ℕ
+  keys = d .before .before .before .before .before .before .args .keys .now
 
-outcome-is : (d : tie.After-add) → addOutcome Double emptyTable 0 (d .before .before .before .before .before .before .args .keys .now) (d .before .before .before .before .before .before .args .values .now) tableSize ≡ tableAnswer (d .add .result)
-outcome-is d = sym (d .add .ensures .0)
+  abbrev values : List ℕ
+  values = d .before .before .before .before .before .before .args .values .now
+
+  bytes-here : AreBytes keys
+  bytes-here i = d .before .before .before .before .shared-slice-known .given i .fits
+
+  outcome-here : addOutcome Double emptyTable 0 keys values tableSize ≡ tableAnswer (d .add .result)
+  outcome-here = sym (d .add .ensures .0)
 
 slice-aggregate-add : tie.Need-slice-aggregate-add
 slice-aggregate-add c = search needs
@@ -35,12 +45,10 @@ slice-aggregate-print-table c = search needs
 
 print-table-requires : tie.Need-print-table-requires
 print-table-requires c κs =
-    let s = c .before .before .before .before .before .before .before .before .before .before .before .before .before .args in
-    let a = bytes (c .before .before .before .before .before .before .before .before .before .before .before) in
-    let e = outcome-is (c .before .before .before .before .before .before .before) ∙ ap tableAnswer (c .before .before .before .g .given .1) in
-    let g = c .before .before .before .g .given .0 .0 in
-    let l = columns-left (s .keys .now) (s .values .now) g a e in
-    ((l .room, omega arith), rw (c .before .before .before .before .before .before .before .add .ensures .1 .0) (l .table .is-sound))
+    let d = c .before .before .before .before .before .before .before in
+    let g = c .before .before .before .g .given in
+    let l = columns-left (keys d) (values d) (g .0 .0) (bytes-here d) (outcome-here d ∙ ap tableAnswer (g .1)) in
+    ((l .room, omega arith), rw (d .add .ensures .1 .0) (l .table .is-sound))
 
 enum-known-r : tie.Need-enum-known-r
 enum-known-r c = search needs
@@ -56,20 +64,20 @@ same-length c = search needs
 
 returns : tie.Need-returns
 returns c =
-    let s = c .before .before .before .before .before .before .before .before .before .before .before .before .before .before .before .before .args in
-    let a = bytes (c .before .before .before .before .before .before .before .before .before .before .before .before .before .before) in
-    let e = outcome-is (c .before .before .before .before .before .before .before .before .before .before) ∙ ap tableAnswer (c .before .before .before .before .before .before .g .given .1) in
-    rw (columns-accepted (s .keys .now) (s .values .now) (c .before .before .before .before .before .before .g .given .0 .0) a e, ← c .before .before .before .before .before .before .before .before .before .before .add .ensures .1 .0) (c .before .before .print-table .ensures)
+    let e = c .before .before .before .before .before .before in
+    let d = e .before .before .before .before in
+    let g = e .g .given in
+    rw (columns-accepted (keys d) (values d) (g .0 .0) (bytes-here d) (outcome-here d ∙ ap tableAnswer (g .1)), ← d .add .ensures .1 .0) (c .before .before .print-table .ensures)
 
 same-length-2 : tie.Need-same-length-2
 same-length-2 c = search needs
 
 returns-2 : tie.Need-returns-2
 returns-2 c =
-    let s = c .before .before .before .before .before .before .before .before .before .before .before .before .before .before .before .before .args in
-    let r = c .before .before .before .before .before .before .r .given in
-    let e = outcome-is (c .before .before .before .before .before .before .before .before .before .before) ∙ ap tableAnswer (r .1) in
-    rw (columns-refused (s .keys .now) (s .values .now) (numberOf (r .0 .0)) e, ← c .before .before .before .number .ensures) (c .before .before .print-refused .ensures)
+    let e = c .before .before .before .before .before .before in
+    let d = e .before .before .before .before in
+    let r = e .r .given in
+    rw (columns-refused (keys d) (values d) (numberOf (r .0 .0)) (outcome-here d ∙ ap tableAnswer (r .1)), ← c .before .before .before .number .ensures) (c .before .before .print-refused .ensures)
 
 pub print-columns-spec : {M : Type 1} → statement M
 print-columns-spec =
