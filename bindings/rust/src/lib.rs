@@ -85,7 +85,7 @@ const GROUNDS: [&str; 16] = [
 ];
 
 impl Refusal {
-    /// The number, as docs/RULES.md lists it.
+    /// The number, as docs/RULES.md lists it; 16 is a buffer that is too short for a report.
     pub fn number(self) -> u32 {
         self.0
     }

@@ -1,4 +1,4 @@
--- Row counts after an add: those held and those brought. So whether a section is overflows can be seen before any row is added.
+-- Row counts after an add: those held and those brought. So whether a row count overflows can be seen before any row is added.
 use Prim.Native.Nat.{ℕ, _+_, _≤_, _<_}
 use mathlib.Core.Path.{_≡_, refl, sym, ap, ap₂, _∙_}
 use mathlib.Core.Bool.{Bool, true, false, cond, _||_, or-true, true≢false}
@@ -28,7 +28,7 @@ module _ (p : ℕ → ℕ → Bool) where
   abbrev test : Section → Bool
   test s = p (s .key) (s .count)
 
-  -- a section that countOverflows has a number that does
+  -- a section that has p has a number that does
   pub any-count : (ts : List Section) → All (λ (s : Section). 1 ≤ s .count) ts → Rising (keysIn ts) → anyOf test ts ≡ true
       → (k : ℕ) × (0 < countIn k ts) × (p k (countIn k ts) ≡ true)
   unfolding anyOf
@@ -48,7 +48,7 @@ module _ (p : ℕ → ℕ → Bool) where
           let h : countIn (w .0) (t ∷ ts) ≡ countIn (w .0) ts = ap countOf (find-tail (w .0) t ts no) in
           (w .0, omega (arith, w .1), rw h (w .2))
 
-  -- and a number that countOverflows belongs to such a section
+  -- and a number that has p belongs to such a section
   pub count-any : (k : ℕ) (ts : List Section) → 0 < countIn k ts → p k (countIn k ts) ≡ true → anyOf test ts ≡ true
   unfolding anyOf
   count-any k [] h e = absurd (omega (arith, ap countOf (find-nil k)))
@@ -122,7 +122,7 @@ count-few k (t ∷ ts) a = by (ℕ-discrete k (t .key)) (count-few k ts (a .1))
     by (yes q) ih = rw (find-head k t ts q) (a .0)
     by (no q) ih = rw (find-tail k t ts q) ih
 
--- ---- whether an add overflows-by a section overflows
+-- ---- whether an add makes a row count overflow
 abbrev full : ℕ → ℕ → Bool
 full k c = ltb mostRows c
 
@@ -133,14 +133,14 @@ module _ (kind : Kind) (ks vs : List ℕ) (ts : List Section) (a : All (λ (s : 
   counts : (k : ℕ) → countIn k after ≡ countIn k ts + occurrences k (columnKeys ks)
   counts k = count-added k (rowsOf kind ks vs) ts r ∙ ap (λ (l : List ℕ). countIn k ts + occurrences k l) (row-keys kind ks vs)
 
-  -- the add overflows-by section k overflows
+  -- the add makes the count of section k overflow
   overflows-by : (k : ℕ) → countOverflows ks k (countIn k ts) ≡ true → anyOf overflows after ≡ true
   overflows-by k e =
       let h = ltb-true mostRows (countIn k ts + occurrences k (columnKeys ks)) e in
       let l : mostRows < countIn k after = omega (arith, counts k) in
       count-any full k after (omega arith) (lt-ltb mostRows (countIn k after) l)
 
-  -- and so does every section that becomes overflows
+  -- and so does every section whose count overflows
   overflow-by : anyOf overflows after ≡ true → (k : ℕ) × (countOverflows ks k (countIn k ts) ≡ true)
   overflow-by e =
       let w = any-count full after (added-counts (rowsOf kind ks vs) ts a) (added-rising ts (rowsOf kind ks vs) r) e in

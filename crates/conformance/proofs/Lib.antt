@@ -1,2 +1,4 @@
 -- The calls' contracts are steps of a way of working.
 pub mod Tied
+pub mod Totality
+pub mod Lists

@@ -17,14 +17,14 @@ use Rattle.integers.proofs.Laws.{natAbs-neg, negℤ-*ℤ, back}
 use Rattle.level.proofs.Signs.{natAbs-signed}
 use Rattle.level.specs.Double.{signed}
 use Rattle.level.specs.Level.{unit}
-use Rattle.level.specs.Carry.{totalOf, InRange}
+use Rattle.level.specs.Carry.{carryBase, totalOf, InRange}
 use Rattle.level.specs.declared.SplitTotal.{SplitTotal}
 use Rattle.record.specs.declared.Record.{Record}
 use Rattle.record.specs.Sound.{soundRecord}
 use Rattle.record.specs.Section.{kept, meaning}
 use Rattle.record.proofs.Parts.{empty-total, sound-record-parts, total-range}
 use Rattle.limbs.specs.Limbs.{Distance}
-use Rattle.finish.specs.Raised.{carryRaise, carryUnit, totalRaise, raisedCarry, raisedTotal}
+use Rattle.finish.specs.Raised.{carryRaise, totalRaise, raisedCarry, raisedTotal}
 
 -- ---- the kept value, 80 digits up
 
@@ -78,11 +78,11 @@ carry-read c r h e =
 pub carry-back : (c : ℤ) → natAbs c < carryRaise → toZ w64 (ofZ w64 c) ≡ c
 carry-back c h = back c (omega arith)
 
-total-of : (n s : ℕ) → (n ⊝ carryRaise) *ℤ pos (carryUnit) +ℤ pos s ≡ (s + carryUnit * n) ⊝ totalRaise
+total-of : (n s : ℕ) → (n ⊝ carryRaise) *ℤ pos (carryBase) +ℤ pos s ≡ (s + carryBase * n) ⊝ totalRaise
 total-of n s = simp ints (omega arith)
 
 total-is : (h : SplitTotal) → InRange h → totalOf h ≡ raisedTotal h ⊝ totalRaise
-total-is h r = ap (λ (c : ℤ). c *ℤ pos (carryUnit) +ℤ pos (h .residue)) (carry-is (h .carry) (r .1)) ∙ total-of (raisedCarry (h .carry)) (h .residue)
+total-is h r = ap (λ (c : ℤ). c *ℤ pos (carryBase) +ℤ pos (h .residue)) (carry-is (h .carry) (r .1)) ∙ total-of (raisedCarry (h .carry)) (h .residue)
 
 stacked-is : (a b x y z : ℕ) → (z ⊝ b) +ℤ pos a *ℤ (y ⊝ b) +ℤ pos (a * a) *ℤ (x ⊝ b) ≡ (z + a * y + a * a * x) ⊝ (b + a * b + a * a * b)
 stacked-is a b x y z = simp ints (omega arith)
@@ -139,10 +139,10 @@ units-exact k v u e = ap (λ (x : ℕ). x / 2 ^ 80) (sym e) ∙ mul-div-cancel k
 
 -- ---- three levels put together
 
-pub high-lt : (s r : ℕ) → s < carryUnit → r < 2 ^ 23 → s / 2 ^ 40 + r * 1024 < 2 ^ 34
+pub high-lt : (s r : ℕ) → s < carryBase → r < 2 ^ 23 → s / 2 ^ 40 + r * 1024 < 2 ^ 34
 high-lt s r h k = omega arith
 
-pub high-same : (s r : ℕ) → s % 2 ^ 40 + 2 ^ 40 * (s / 2 ^ 40 + r * 1024) ≡ s + carryUnit * r
+pub high-same : (s r : ℕ) → s % 2 ^ 40 + 2 ^ 40 * (s / 2 ^ 40 + r * 1024) ≡ s + carryBase * r
 high-same s r = omega arith
 
 pub stacked-same : (w k l m h i j x y z : ℕ) → k + 2 ^ 40 * h ≡ x → l + 2 ^ 40 * i ≡ y → m + 2 ^ 40 * j ≡ z

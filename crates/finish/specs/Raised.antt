@@ -4,15 +4,12 @@ use mathlib.Core.Path.{_≡_}
 use mathlib.Core.List.{List}
 use lib.IntN.{ℤ, pos, natAbs, _+ℤ_}
 use Rattle.level.specs.declared.SplitTotal.{SplitTotal}
+use Rattle.level.specs.Carry.{carryBase}
 use Rattle.limbs.specs.Limbs.{valueOf, Normal}
 
 -- what a carry is raised by
 abbrev pub carryRaise : ℕ
 carryRaise = 2 ^ 22
-
--- what a carry counts
-abbrev pub carryUnit : ℕ
-carryUnit = 2 ^ 50
 
 -- what a total is raised by with its carry
 abbrev pub totalRaise : ℕ
@@ -24,7 +21,7 @@ raisedCarry c = natAbs (c +ℤ pos carryRaise)
 
 -- a raised total: its residue and that carry
 abbrev pub raisedTotal : SplitTotal → ℕ
-raisedTotal h = h .residue + carryUnit * raisedCarry (h .carry)
+raisedTotal h = h .residue + carryBase * raisedCarry (h .carry)
 
 -- r holds three numbers, each one limb above the next
 pub record Stacked (high middle low : ℕ) (r : List ℕ) : Type 0 where

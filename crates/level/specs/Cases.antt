@@ -17,8 +17,8 @@ abbrev part : ℕ → ℤ → ℤ → ℤ → Contributions
 part t h m l = record { top = t; high = h; middle = m; low = l }
 
 -- what each of them gives
-given : List Contributions
-given =
+expected : List Contributions
+expected =
     part 0 (pos 0) (pos 0) (pos 0)
     ∷ part 0 (pos 0) (pos 0) (pos 0)
     ∷ part 27 (pos 2) (pos (2 ^ 39)) (pos 0)
@@ -30,6 +30,6 @@ given =
     ∷ part 52 (pos (2 ^ 18)) (pos 0) (pos 0)
     ∷ []
 
-computed : map contributionsOf rows ≡ given
-unfolding rows given top contribution
+computed : map contributionsOf rows ≡ expected
+unfolding rows expected top contribution
 computed = refl

@@ -167,7 +167,7 @@ fn lower_two(rest: u64, d: u64) -> Lower
     }
 }
 
-// A sign, flipped_if or kept.
+// A sign, flipped or kept.
 fn flipped_if(sign: bool, flip: bool) -> bool
     ensures { λ r. ⌜ r ≡ flippedIf sign flip ⌝ }
 {

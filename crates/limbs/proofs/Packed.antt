@@ -123,7 +123,7 @@ over-full q k h l = le-trans (le-of-eq (pow-add 2 52 2046)) (mul-le-mul l (pow-m
 under-full : (q k : ℕ) → k ≤ 2044 → q ≤ 2 ^ 53 → q * 2 ^ k < 2 ^ 2098
 under-full q k h l = lt-of-le-of-lt (mul-le-mul l (pow-mono h)) (lt-of-le-of-lt (le-of-eq (sym (pow-add 2 53 2044))) (pow-lt {i = 2097} {j = 2098} (lit< tt)))
 
--- in packed and in size alike
+-- in bits and in size alike
 finite-below : (q k : ℕ) → q ≤ 2 ^ 53 → (k ≡ 0) ⊎ (2 ^ 52 ≤ q) → k * 2 ^ 52 + q < infinite → q * 2 ^ k < 2 ^ 2098
 finite-below q k h (inl z) b = under-full q k (omega arith) h
 finite-below q k h (inr l) b = ⊎-elim (λ g. under-full q k g h) (λ g. at g) (le-or-lt k 2044)
@@ -147,7 +147,7 @@ infinite-above q k h (inr l) b = ⊎-elim (λ g. at g) (λ g. over-full q k g l)
         let r : 2 ^ 53 ≤ q = omega arith in
         subst (λ (j : ℕ). 2 ^ 2098 ≤ q * 2 ^ j) (sym e) (le-trans (le-of-eq (pow-add 2 53 2045)) (mul-le-mul-right (2 ^ 2045) r))
 
--- ---- the packed is the rounded value's, and the rounded value is an infinity from `infinite` on
+-- ---- these bits are the rounded value's, and the rounded value is an infinity from `infinite` on
 
 pub packed-bits : (s : Bool) (n : ℕ) → packed n < infinite → toBits binary64 (round binary64 s n (2 ^ 1074)) ≡ signBit s + packed n
 packed-bits s n h =

@@ -13,6 +13,6 @@ rounded up q Ordering·gt = suc q
 unfoldable pub nearestBy : (ℕ → Bool) → ℕ → ℕ → ℕ
 nearestBy tie n d = rounded (tie (n / d)) (n / d) (compare (n % d * 2) d)
 
--- the rule by which an exact half goes to the even number: up from an isOdd quotient
+-- the rule by which an exact half goes to the even number: up from an odd quotient
 abbrev pub isOdd : ℕ → Bool
 isOdd q = eqb (q % 2) 1

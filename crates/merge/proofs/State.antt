@@ -98,7 +98,7 @@ below-all s (suc i) k h l =
 pub record-in : (s : List ℕ) (i a : ℕ) → T (sound s i) → a < i → recordAt s (a * 64) ≡ recordOf (sectionIn s a)
 record-in s i a h l = sym (record-meaning (recordAt s (a * 64)) (sound-record-at s i a h l))
 
--- its sections written overflow a sound table change no byte
+-- its sections written over a sound table change no byte
 pub written-self : (s : List ℕ) (g : ℕ) → T (sound s g) → AreBytes s → written (sections s g) s ≡ s
 written-self s g t h =
     let n : 64 * length (sections s g) ≡ g * 64 = omega (arith, length-sections s g) in
@@ -109,7 +109,7 @@ unfolding anyOf
 any-append f [] x = or-false (f x)
 any-append f (y ∷ ys) x = ap (λ (b : Bool). f y || b) (any-append f ys x) ∙ sym (or-assoc (f y) (anyOf f ys) (f x))
 
--- no section of a table is overflows: its count has 32 bits
+-- no row count in a table overflows: it has 32 bits
 pub none-overflow : (s : List ℕ) (i : ℕ) → i * 64 ≤ length s → AreBytes s → anyOf overflows (sections s i) ≡ false
 unfolding cells anyOf
 none-overflow s zero l h = refl

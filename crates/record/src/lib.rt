@@ -208,7 +208,7 @@ pub fn capacity(n: usize) -> usize
     if all < 1024 { all } else { 1024 }
 }
 
-// Whether the bytes split a sound table of g records.
+// Whether the bytes hold a sound table of g records.
 pub fn is_sound(t: &[u8], g: usize) -> bool
     ensures { λ r. ⌜ r ≡ sound (now (t .entry)) g ⌝ }
 {

@@ -1,4 +1,4 @@
-// What adding and merging share: the tests of two columns, and sections combined by value.
+// What the calls on tables share: the tests of two columns, and sections combined by value.
 ghost use mathlib.Core.Path.{_≡_};
 ghost use Prim.Native.Nat.{_+_, _≤_, _<_, _^_, max};
 ghost use lib.Dec.{T};
@@ -84,7 +84,7 @@ fn total_at(r: Record, j: u32) -> SplitTotal
     nothing()
 }
 
-// What two records split together d levels below level t; below level 0 there is nothing.
+// What two records hold together d levels below level t; below level 0 there is nothing.
 fn total_below(a: Record, b: Record, t: u32, d: u32) -> SplitTotal
     requires { ⌜ t ≤ 52 ⌝ }
     requires { ⌜ T (soundRecord a) ⌝ }

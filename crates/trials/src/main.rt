@@ -193,7 +193,7 @@ fn print_table(t: &[u8], g: u64) {
     }
 }
 
-// Twelve calls on two tables, then what they split.
+// Twelve calls on two tables, then what they hold.
 fn run_calls(a: &mut [u8], b: &mut [u8], state: u64, kind: u64) {
     let mut g: u64 = 0;
     let mut h: u64 = 0;

@@ -1,6 +1,7 @@
 use mathlib.Core.Path.{_≡_, ap, _∙_}
 use Prim.Native.Nat.{ℕ, _+_, _*_}
-use Rattle.finish.specs.Raised.{carryUnit, raisedCarry}
+use Rattle.level.specs.Carry.{carryBase}
+use Rattle.finish.specs.Raised.{raisedCarry}
 use Rattle.finish.proofs.Whole.{carry-back, high-lt, high-same}
 use borrow.Author.Needs.{needs}
 use Rattle.finish.proofs.high_digits.Statement.{statement}
@@ -20,7 +21,7 @@ returns c =
     let h = c .before .before .before .args .h in
     let n = c .before .before .before .pre in
     let e : c .raised-carry .result ≡ raisedCarry (h .carry) = c .raised-carry .ensures .0 ∙ ap raisedCarry (carry-back (h .carry) (n .1)) in
-    (high-lt _ _ (n .0) (c .raised-carry .ensures .1), high-same (h .residue) (c .raised-carry .result) ∙ ap (λ (x : ℕ). h .residue + carryUnit * x) e)
+    (high-lt _ _ (n .0) (c .raised-carry .ensures .1), high-same (h .residue) (c .raised-carry .result) ∙ ap (λ (x : ℕ). h .residue + carryBase * x) e)
 
 pub high-digits-spec : {M : Type 1} → statement M
 high-digits-spec = tie.close (tie.spec raised-carry-requires mul-result add-result returns)

@@ -1,0 +1,19 @@
+-- The columns that the reader hands back, as its callers learn it: the bytes, and their place in the lent file.
+use mathlib.Core.Path.{_≡_}
+use contract.Lifetimes.{Lfts}
+use borrow.Fn.Kinds.{Dens, endedOf, resT}
+use denote.Triple.Clauses.{AtExit}
+use denote.Ref.{now}
+use Rattle.columns.specs.declared.Kind.the-variants.{Double}
+use Rattle.patch.specs.File.{keyColumn, valueColumn, keyStart, valueStart, placeAfter}
+use Rattle.patch.proofs.keys.Reads as keysReads
+use Rattle.patch.proofs.keys.Kinds as keysKinds
+use Rattle.patch.proofs.values.Reads as valuesReads
+use Rattle.patch.proofs.values.Kinds as valuesKinds
+
+-- patch::keys and patch::values of a file
+pub record Parts : Type 1 where
+  pub of-keys : (κs : Lfts 1) (a : Dens κs keysKinds.ps) (z : resT keysKinds.r κs .Denot) (e : AtExit (endedOf 1 keysKinds.ps keysKinds.r) κs) → keysReads.Learnt κs a z e
+      → (now z ≡ keyColumn Double (now (a .0))) × (z .ptr ≡ placeAfter (a .0 .ptr) (keyStart Double (now (a .0))))
+  pub of-values : (κs : Lfts 1) (a : Dens κs valuesKinds.ps) (z : resT valuesKinds.r κs .Denot) (e : AtExit (endedOf 1 valuesKinds.ps valuesKinds.r) κs) → valuesReads.Learnt κs a z e
+      → (now z ≡ valueColumn Double (now (a .0))) × (z .ptr ≡ placeAfter (a .0 .ptr) (valueStart Double (now (a .0))))
