@@ -2,3 +2,4 @@
 pub mod Tied
 pub mod Totality
 pub mod Lists
+pub mod Placing

@@ -2,8 +2,7 @@
 use mathlib.Core.Path.{_≡_, refl, ap, ap₂, _∙_}
 use mathlib.Core.List.{List, [], _∷_}
 use Rattle.history.specs.Calls.{Call}
-use Rattle.history.specs.Run.{State, Answer, step, stateAfter, answer, answers}
-use Rattle.conformance.specs.Parts.{Parts}
+use Rattle.history.specs.Run.{State, Answer, stateAfter, answers}
 use Rattle.conformance.specs.Worked.{Worked, done, next, WorkedIs}
 
 worked : (s : State) (cs : List Call) (xs : List Answer) (s′ : State) → Worked s cs xs s′ → (answers s cs ≡ xs) × (stateAfter s cs ≡ s′)
@@ -17,6 +16,3 @@ worked s (c ∷ cs) (x ∷ xs) s″ (next {s′ = s′} p w) =
 
 pub worked-is : WorkedIs
 worked-is = record { as-listed = worked }
-
-pub parts : Parts
-parts = record { of-keys = λ κs a z e l. l; of-values = λ κs a z e l. l }
