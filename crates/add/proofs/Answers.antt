@@ -14,7 +14,7 @@ use Rattle.record.specs.Sound.{sound}
 use Rattle.record.specs.Section.{Section}
 use Rattle.lists.specs.Lists.{anyOf}
 use Rattle.table.specs.Calls.{overflows, leaves, addSections, columnGrounds, columnOutcome, sectionGrounds, addGrounds, addOutcome, addLeaves}
-use Rattle.add.specs.Steps.{Stores}
+use Rattle.add.specs.Steps.{TakenIfRoom}
 
 module _ (kind : Kind) (s : List ℕ) (g : ℕ) (ks vs : List ℕ) (work : ℕ) where
   abbrev pub Answered : Outcome ℕ → List ℕ → Type 0
@@ -58,7 +58,7 @@ module _ (kind : Kind) (s : List ℕ) (g : ℕ) (ks vs : List ℕ) (work : ℕ) 
     too-many e = unchanged 11 (by-sections ∙ rw e)
 
     -- what is left is whether there is room
-    pub all-good : anyOf overflows us ≡ false → (r : Outcome ℕ) (s′ : List ℕ) → Stores s us r s′ → Answered r s′
+    pub all-good : anyOf overflows us ≡ false → (r : Outcome ℕ) (s′ : List ℕ) → TakenIfRoom s us r s′ → Answered r s′
     all-good e r s′ h =
         let q : r ≡ addOutcome kind s g ks vs work = h .0 ∙ sym (by-sections ∙ rw e) in
         (q, h .1 ∙ ap (λ (o : Outcome ℕ). leaves o us s) q)

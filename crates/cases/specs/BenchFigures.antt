@@ -11,24 +11,24 @@ use Rattle.table.specs.Combine.{added}
 use Rattle.finish.specs.Finish.{sumOf, figureOf}
 
 -- a figure of the bench book
-pub data Figure : Type 0 where
+pub data BenchFigure : Type 0 where
   -- the top and the three totals
-  totals : ℕ → ℤ → ℤ → ℤ → Figure
+  totals : ℕ → ℤ → ℤ → ℤ → BenchFigure
   -- the top and the first total
-  first : ℕ → ℤ → Figure
+  first : ℕ → ℤ → BenchFigure
   -- the first residue and carry
-  split : ℕ → ℤ → Figure
+  split : ℕ → ℤ → BenchFigure
   -- the sum's 64 bits, or its refusal
-  sum : Outcome ℕ → Figure
+  sum : Outcome ℕ → BenchFigure
   -- the mill figure, or its refusal
-  mill : Outcome ℤ → Figure
+  mill : Outcome ℤ → BenchFigure
   -- what left-to-right addition of the doubles gives, as bits
-  leftToRight : ℕ → Figure
+  leftToRight : ℕ → BenchFigure
 
--- the rows of a section and a figure of them
+-- the bits of a section's rows, and a figure of them
 pub record Case : Type 0 where
-  pub rows : List ℕ
-  pub figure : Figure
+  pub bits : List ℕ
+  pub figure : BenchFigure
 
 -- ---- what the definitions give
 
@@ -52,7 +52,7 @@ there none = record { key = 0; count = 0; top = 0; high = pos 0; middle = pos 0;
 there (some s) = s
 
 -- the figure of the same kind that a section has
-abbrev pub of : Option Section → List ℕ → Figure → Figure
+abbrev pub of : Option Section → List ℕ → BenchFigure → BenchFigure
 of o bs (totals a b c d) = totals (there o .top) (there o .high) (there o .middle) (there o .low)
 of o bs (first a b) = first (there o .top) (there o .high)
 of o bs (split a b) = split (residueOf (there o .high)) (carryOf (there o .high))
@@ -61,45 +61,47 @@ of o bs (mill a) = mill (figureOf o)
 of o bs (leftToRight a) = leftToRight (toBits binary64 (addedUp (ofBits binary64 0) bs))
 
 -- the figure that the definitions give for a case's rows
-abbrev pub computed : Case → Figure
-computed c = of (section (c .rows)) (c .rows) (c .figure)
+abbrev pub computed : Case → BenchFigure
+computed c = of (section (c .bits)) (c .bits) (c .figure)
 
 -- ---- the figures
 
+-- the double 1
 abbrev one : ℕ
 one = 0x3FF0000000000000
 
-abbrev row : List ℕ → Figure → Case
-row bs f = record { rows = bs; figure = f }
+-- rows by their bits, and a figure of them
+abbrev entry : List ℕ → BenchFigure → Case
+entry bs f = record { bits = bs; figure = f }
 
 -- document 01's figures B1 to B12, each with its rows
 abbrev pub benchFigures : List Case
 benchFigures =
     -- B1: 1; B2: -1; B3: 31.5; B4: 32; B5: 96
-    row (one ∷ []) (totals 26 (pos (2 ^ 34)) (pos 0) (pos 0))
-    ∷ row (0xBFF0000000000000 ∷ []) (split 1125882726973440 (negsuc 0))
-    ∷ row (0x403F800000000000 ∷ []) (first 26 (pos 541165879296))
-    ∷ row (0x4040000000000000 ∷ []) (totals 27 (pos 0) (pos (2 ^ 39)) (pos 0))
-    ∷ row (0x4058000000000000 ∷ []) (totals 27 (pos 2) (negℤ (pos (2 ^ 39))) (pos 0))
+    entry (one ∷ []) (totals 26 (pos (2 ^ 34)) (pos 0) (pos 0))
+    ∷ entry (0xBFF0000000000000 ∷ []) (split 1125882726973440 (negsuc 0))
+    ∷ entry (0x403F800000000000 ∷ []) (first 26 (pos 541165879296))
+    ∷ entry (0x4040000000000000 ∷ []) (totals 27 (pos 0) (pos (2 ^ 39)) (pos 0))
+    ∷ entry (0x4058000000000000 ∷ []) (totals 27 (pos 2) (negℤ (pos (2 ^ 39))) (pos 0))
     -- B6: bits 1, and bits 0000007FFFFFFFFF; B7: bits 0000008000000000
-    ∷ row (0x0000000000000001 ∷ []) (totals 0 (pos 1) (pos 0) (pos 0))
-    ∷ row (0x0000007FFFFFFFFF ∷ []) (first 0 (pos 549755813887))
-    ∷ row (0x0000008000000000 ∷ []) (totals 1 (pos 0) (pos (2 ^ 39)) (pos 0))
+    ∷ entry (0x0000000000000001 ∷ []) (totals 0 (pos 1) (pos 0) (pos 0))
+    ∷ entry (0x0000007FFFFFFFFF ∷ []) (first 0 (pos 549755813887))
+    ∷ entry (0x0000008000000000 ∷ []) (totals 1 (pos 0) (pos (2 ^ 39)) (pos 0))
     -- B8: both zeros
-    ∷ row (0x0000000000000000 ∷ 0x8000000000000000 ∷ []) (sum (accepted 0))
+    ∷ entry (0x0000000000000000 ∷ 0x8000000000000000 ∷ []) (sum (accepted 0))
     -- B9: in each order, and by left-to-right addition
-    ∷ row (0x3CB0000000000000 ∷ 0x3FEFFFFFFFFFFFFF ∷ 0x3CB0000000000000 ∷ []) (sum (accepted 0x3FF0000000000002))
-    ∷ row (0x3CB0000000000000 ∷ 0x3CB0000000000000 ∷ 0x3FEFFFFFFFFFFFFF ∷ []) (sum (accepted 0x3FF0000000000002))
-    ∷ row (0x3FEFFFFFFFFFFFFF ∷ 0x3CB0000000000000 ∷ 0x3CB0000000000000 ∷ []) (sum (accepted 0x3FF0000000000002))
-    ∷ row (0x3CB0000000000000 ∷ 0x3FEFFFFFFFFFFFFF ∷ 0x3CB0000000000000 ∷ []) (leftToRight 0x3FF0000000000001)
+    ∷ entry (0x3CB0000000000000 ∷ 0x3FEFFFFFFFFFFFFF ∷ 0x3CB0000000000000 ∷ []) (sum (accepted 0x3FF0000000000002))
+    ∷ entry (0x3CB0000000000000 ∷ 0x3CB0000000000000 ∷ 0x3FEFFFFFFFFFFFFF ∷ []) (sum (accepted 0x3FF0000000000002))
+    ∷ entry (0x3FEFFFFFFFFFFFFF ∷ 0x3CB0000000000000 ∷ 0x3CB0000000000000 ∷ []) (sum (accepted 0x3FF0000000000002))
+    ∷ entry (0x3CB0000000000000 ∷ 0x3FEFFFFFFFFFFFFF ∷ 0x3CB0000000000000 ∷ []) (leftToRight 0x3FF0000000000001)
     -- B10: 2^60, 1, -2^60; and 2^-35 for 1
-    ∷ row (0x43B0000000000000 ∷ one ∷ 0xC3B0000000000000 ∷ []) (sum (accepted one))
-    ∷ row (0x43B0000000000000 ∷ 0x3DC0000000000000 ∷ 0xC3B0000000000000 ∷ []) (sum (accepted 0))
+    ∷ entry (0x43B0000000000000 ∷ one ∷ 0xC3B0000000000000 ∷ []) (sum (accepted one))
+    ∷ entry (0x43B0000000000000 ∷ 0x3DC0000000000000 ∷ 0xC3B0000000000000 ∷ []) (sum (accepted 0))
     -- B11: the largest double once, and twice
-    ∷ row (0x7FEFFFFFFFFFFFFF ∷ []) (sum (accepted 0x7FEFFFFFFFFFFFFF))
-    ∷ row (0x7FEFFFFFFFFFFFFF ∷ 0x7FEFFFFFFFFFFFFF ∷ []) (sum (refused 14))
+    ∷ entry (0x7FEFFFFFFFFFFFFF ∷ []) (sum (accepted 0x7FEFFFFFFFFFFFFF))
+    ∷ entry (0x7FEFFFFFFFFFFFFF ∷ 0x7FEFFFFFFFFFFFFF ∷ []) (sum (refused 14))
     -- B12: 0.125, -0.125 and 21474836
-    ∷ row (0x3FC0000000000000 ∷ []) (mill (accepted (pos 13)))
-    ∷ row (0xBFC0000000000000 ∷ []) (mill (accepted (negℤ (pos 12))))
-    ∷ row (0x41747AE140000000 ∷ []) (mill (accepted (pos 2147483600)))
+    ∷ entry (0x3FC0000000000000 ∷ []) (mill (accepted (pos 13)))
+    ∷ entry (0xBFC0000000000000 ∷ []) (mill (accepted (negℤ (pos 12))))
+    ∷ entry (0x41747AE140000000 ∷ []) (mill (accepted (pos 2147483600)))
     ∷ []

@@ -76,7 +76,7 @@ pub fn put_i64(s: &mut [u8], at: usize, x: i64)
 }
 
 // The bytes from a to e move up by d.
-pub fn shift(s: &mut [u8], a: usize, e: usize, d: usize)
+pub fn move_up(s: &mut [u8], a: usize, e: usize, d: usize)
     requires { ⌜ (a ≤ e) × (e + d ≤ length (now s)) ⌝ }
     ensures { λ _. ⌜ now (s .exit) ≡ sets (now (s .entry)) (a + d) (take (e - a) (drop a (now (s .entry)))) ⌝ }
 {

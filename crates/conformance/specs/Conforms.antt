@@ -29,8 +29,8 @@ use Rattle.finish.proofs.line.Reads as lines
 use Rattle.finish.proofs.line.Kinds as lineKinds
 
 -- a call in state s that answers x and leaves the state s′
-abbrev pub Steps : State → Call → Answer → State → Type 0
-Steps s c x s′ = (answer s c ≡ x) × (step s c ≡ s′)
+abbrev pub StepsTo : State → Call → Answer → State → Type 0
+StepsTo s c x s′ = (answer s c ≡ x) × (step s c ≡ s′)
 
 -- table t is lent: its bytes b, and its group count g
 abbrev pub Lent : Store → List ℕ → ℕ → Type 0
@@ -52,7 +52,7 @@ pub record Conforms : Type 0 where
       let table′ = now (e .0) in
       let work′ = now (e .1 .1 .1 .1 .0) in
       Lent (s .tables i) table g → adds.Learnt κs a z e
-      → Steps s (add i Double keys values (length work)) (groupsAre (tableAnswer z)) (stateLeft s i (tableAnswer z) table′) × (work′ ≡ cleared work)
+      → StepsTo s (add i Double keys values (length work)) (groupsAre (tableAnswer z)) (stateLeft s i (tableAnswer z) table′) × (work′ ≡ cleared work)
   -- merge::merge into table i of another table j, which is lent for reading
   pub of-merge : (s : State) (i j : ℕ) (apart : T (not (eqb i j)))
       (κs : Lfts 2) (a : Dens κs mergeKinds.ps) (z : resT mergeKinds.r κs .Denot) (e : AtExit (endedOf 2 mergeKinds.ps mergeKinds.r) κs)
@@ -62,20 +62,20 @@ pub record Conforms : Type 0 where
       let g2 = a .1 .1 .1 .0 in
       let first′ = now (e .0) in
       Lent (s .tables i) first g1 → Lent (s .tables j) second g2 → merges.Learnt κs a z e
-      → Steps s (merge i j apart) (groupsAre (tableAnswer z)) (stateLeft s i (tableAnswer z) first′)
+      → StepsTo s (merge i j apart) (groupsAre (tableAnswer z)) (stateLeft s i (tableAnswer z) first′)
   -- finish::sum, figure and line of a section in table i, which is lent for reading
   pub of-sum : (s : State) (i : ℕ) (κs : Lfts 1) (a : Dens κs sumKinds.ps) (z : resT sumKinds.r κs .Denot) (e : AtExit (endedOf 1 sumKinds.ps sumKinds.r) κs)
       → let table = now (a .0) in
       let g = a .1 .0 in
       let key = a .1 .1 .0 in
-      Lent (s .tables i) table g → sums.Learnt κs a z e → Steps s (ask i (sum key)) (sumIs (sumAnswer z)) s
+      Lent (s .tables i) table g → sums.Learnt κs a z e → StepsTo s (ask i (sum key)) (sumIs (sumAnswer z)) s
   pub of-figure : (s : State) (i : ℕ) (κs : Lfts 1) (a : Dens κs figureKinds.ps) (z : resT figureKinds.r κs .Denot) (e : AtExit (endedOf 1 figureKinds.ps figureKinds.r) κs)
       → let table = now (a .0) in
       let g = a .1 .0 in
       let key = a .1 .1 .0 in
-      Lent (s .tables i) table g → figures.Learnt κs a z e → Steps s (ask i (figure key)) (figureIs (figureAnswer z)) s
+      Lent (s .tables i) table g → figures.Learnt κs a z e → StepsTo s (ask i (figure key)) (figureIs (figureAnswer z)) s
   pub of-line : (s : State) (i : ℕ) (κs : Lfts 1) (a : Dens κs lineKinds.ps) (z : resT lineKinds.r κs .Denot) (e : AtExit (endedOf 1 lineKinds.ps lineKinds.r) κs)
       → let table = now (a .0) in
       let g = a .1 .0 in
       let key = a .1 .1 .0 in
-      Lent (s .tables i) table g → lines.Learnt κs a z e → Steps s (ask i (line key)) (lineIs (lineAnswer z)) s
+      Lent (s .tables i) table g → lines.Learnt κs a z e → StepsTo s (ask i (line key)) (lineIs (lineAnswer z)) s

@@ -1,4 +1,4 @@
--- What it means that a call's contract is a step of a way of working.
+-- What contracts say to callers: that calls are steps of a way of working, that none asks anything, and where returned parts stand.
 pub mod Conforms
 pub mod Total
 pub mod Parts

@@ -30,7 +30,7 @@ use table::TableAnswer;
 fn minus(r: Refusal) -> i64
     ensures { λ n. ⌜ n ≡ negℤ (pos (numberOf r)) ⌝ }
 {
-    level::with_sign(true, refusal::number(r) as u64)
+    level::with_sign(true, refusal::number_of(r) as u64)
 }
 
 // The row count of a patch file, and where its columns start.

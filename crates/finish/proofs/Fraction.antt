@@ -12,7 +12,7 @@ use lib.Ieee.Bits.{ofBits-toBits, toBits-lt, is-true}
 use lib.Ieee.Exact.{HasValue}
 use lib.Ieee.Scale as Scale
 use Rattle.refusal.specs.Outcome.{accepted, refused}
-use Rattle.level.specs.Double.{field, fraction, significand, magnitude, negative, finiteBits, signed}
+use Rattle.level.specs.Double.{exponentField, fraction, significand, magnitude, negative, finiteBits, signed}
 use Rattle.level.proofs.Double.{significand-normal}
 use Rattle.level.proofs.Binary64.{finite-binary64, value-binary64}
 use Rattle.finish.specs.Figure.{millFigure, beyond}
@@ -49,17 +49,17 @@ module _ (x : Float) (f : T (fits binary64 x)) (h : T (Scale.finite x)) where
       ap millFigure (sym e) ∙ value-figure (ofBits binary64 b) (negative b) (magnitude b) (value-binary64 b (toBits-lt binary64 x f) g)
 
   -- where its field is at most 1074
-  pub near-figure : (r : ℕ) → r + (field (toBits binary64 x) - 1) ≡ 1074
+  pub near-figure : (r : ℕ) → r + (exponentField (toBits binary64 x) - 1) ≡ 1074
       → signed (negative (toBits binary64 x)) (nearestBy (λ (q : ℕ). not (negative (toBits binary64 x))) (significand (toBits binary64 x) * 100) (2 ^ r)) ≡ millFigure x
   near-figure r e =
       let b = toBits binary64 x in
-      ap (λ (n : ℕ). signed (negative b) n) (sym (hundredths-units (λ (q : ℕ). not (negative b)) (significand b) (field b - 1) r e)) ∙ sym bits-figure
+      ap (λ (n : ℕ). signed (negative b) n) (sym (hundredths-units (λ (q : ℕ). not (negative b)) (significand b) (exponentField b - 1) r e)) ∙ sym bits-figure
 
   -- a field from 1075 on has a hidden digit, and its value is 2^52 at least
-  pub far-figure : 1074 < field (toBits binary64 x) → refused 15 ≡ cond (beyond (millFigure x)) (refused 15) (accepted (millFigure x))
+  pub far-figure : 1074 < exponentField (toBits binary64 x) → refused 15 ≡ cond (beyond (millFigure x)) (refused 15) (accepted (millFigure x))
   far-figure l =
       let b = toBits binary64 x in
-      let k : 1074 ≤ field b - 1 = omega arith in
+      let k : 1074 ≤ exponentField b - 1 = omega arith in
       let g : 2 ^ 52 ≤ significand b = le-trans (le-add-right (2 ^ 52) (fraction b)) (le-of-eq (sym (significand-normal b (λ z. lt-irrefl 0 (omega arith))))) in
       let m : 2 ^ 1126 ≤ magnitude b = le-trans (le-of-eq (pow-add 2 52 1074)) (mul-le-mul g (pow-mono k)) in
       rw bits-figure (figure-beyond (negative b) (figureSize (negative b) (magnitude b)) (far (λ (q : ℕ). not (negative b)) (magnitude b) m))

@@ -18,7 +18,7 @@ use lib.Ieee.Fits.{down-pos, round-fits}
 use lib.Ieee.Exact.{HasValue}
 use lib.Ieee.Scale as Scale
 use Rattle.integers.proofs.Diff.{ints}
-use Rattle.level.specs.Double.{field, fraction, significand, magnitude, negative, finiteBits, signed, value}
+use Rattle.level.specs.Double.{exponentField, fraction, significand, magnitude, negative, finiteBits, signed, value}
 use Rattle.level.specs.Cut.{apart}
 use Rattle.level.proofs.Signs.{sub-signed, natAbs-signed}
 use Rattle.level.proofs.Double.{significand-lt}
@@ -165,7 +165,7 @@ unique (fin u m e) s t a c h k = (sym (k .0) ∙ h .0, eq-of-mul-eq-mul-right (d
 
 -- the last digit of bits is the significand's, and a sign and a field have even places
 significand-even : (b : ℕ) → b % 2 ≡ 0 → significand b % 2 ≡ 0
-significand-even b e = go (eqb (field b) 0)
+significand-even b e = go (eqb (exponentField b) 0)
   where
     go : (t : Bool) → cond t (fraction b) (2 ^ 52 + fraction b) % 2 ≡ 0
     go true = omega arith
@@ -211,7 +211,7 @@ nearest-double k e =
     let d : natAbs (k -ℤ value b) ≡ natAbs (signed s n -ℤ signed s (significandOf n * 2 ^ droppedDigits n)) = ap₂ (λ (x y : ℤ). natAbs (x -ℤ y)) (size-sign k) v in
     let f : (c : ℕ) → natAbs (signed s n -ℤ value c) ≡ natAbs (k -ℤ value c) = λ c. ap (λ (x : ℤ). natAbs (x -ℤ value c)) (sym (size-sign k)) in
     record {
-      number = bits-finite s n h;
-      near = λ c g. le-trans (le-of-eq d) (le-trans (near-signed s n (negative c) (significand c) (field c - 1) (significand-lt c)) (le-of-eq (f c)));
-      even = λ c g o q. bits-even s n h (even-signed s n (negative c) (significand c) (field c - 1) (significand-lt c) (λ r. o (r ∙ sym v)) (sym d ∙ q ∙ sym (f c)));
+      finite = bits-finite s n h;
+      near = λ c g. le-trans (le-of-eq d) (le-trans (near-signed s n (negative c) (significand c) (exponentField c - 1) (significand-lt c)) (le-of-eq (f c)));
+      even = λ c g o q. bits-even s n h (even-signed s n (negative c) (significand c) (exponentField c - 1) (significand-lt c) (λ r. o (r ∙ sym v)) (sym d ∙ q ∙ sym (f c)));
     }

@@ -23,7 +23,7 @@ use Rattle.record.specs.declared.Record.{Record}
 use Rattle.record.specs.Sound.{soundRecord}
 use Rattle.record.specs.Section.{kept, meaning}
 use Rattle.record.proofs.Parts.{empty-total, sound-record-parts, total-range}
-use Rattle.limbs.specs.Limbs.{Distance}
+use Rattle.limbs.specs.Limbs.{SignedDifference}
 use Rattle.finish.specs.Raised.{carryRaise, totalRaise, raisedCarry, raisedTotal}
 
 -- ---- the kept value, 80 digits up
@@ -89,9 +89,9 @@ stacked-is a b x y z = simp ints (omega arith)
 
 -- ---- the distance with its sign
 
-distance-is : (s : Bool) (v p q : ℕ) → Distance s v p q → p ⊝ q ≡ signed s v
-distance-is false v p q e = simp ints (omega arith)
-distance-is true v p q e = simp ints (omega arith)
+difference-is : (s : Bool) (v p q : ℕ) → SignedDifference s v p q → p ⊝ q ≡ signed s v
+difference-is false v p q e = simp ints (omega arith)
+difference-is true v p q e = simp ints (omega arith)
 
 scaled-size : (k : ℤ) (c : ℕ) → natAbs (k *ℤ pos c) ≡ natAbs k * c
 scaled-size (pos n) c = refl
@@ -108,13 +108,13 @@ pub signed-mul : (s : Bool) (v u : ℕ) → signed s v *ℤ pos u ≡ signed s (
 signed-mul false v u = refl
 signed-mul true v u = negℤ-*ℤ (pos v) (pos u)
 
-distance-some : (s : Bool) (v p q : ℕ) → Distance s v p q → s ≡ true → 0 < v
-distance-some true v p q e h = e .1
-distance-some false v p q e h = let z : _≡_ {A = ℕ} 0 1 = cc in absurd (lt-irrefl 0 (omega arith))
+difference-some : (s : Bool) (v p q : ℕ) → SignedDifference s v p q → s ≡ true → 0 < v
+difference-some true v p q e h = e .1
+difference-some false v p q e h = let z : _≡_ {A = ℕ} 0 1 = cc in absurd (lt-irrefl 0 (omega arith))
 
 -- the size and the sign of a sound record's kept value: P holds the raised totals, Q what they were raised by, and v is their distance
 pub kept-size : (r : Record) (v P Q : ℕ) (s : Bool) → r .count < 2 ^ 32 → T (soundRecord r)
-    → P ≡ raisedTotal (r .low) + 2 ^ 40 * raisedTotal (r .middle) + 2 ^ 80 * raisedTotal (r .high) → Q ≡ totalRaise + 2 ^ 40 * totalRaise + 2 ^ 80 * totalRaise → Distance s v P Q
+    → P ≡ raisedTotal (r .low) + 2 ^ 40 * raisedTotal (r .middle) + 2 ^ 80 * raisedTotal (r .high) → Q ≡ totalRaise + 2 ^ 40 * totalRaise + 2 ^ 80 * totalRaise → SignedDifference s v P Q
     → (natAbs (kept (meaning r)) * 2 ^ 80 ≡ v * 2 ^ (40 * r .top)) × (not (nonNeg (kept (meaning r))) ≡ s)
 unfolding kept
 kept-size r v P Q s l h p q d =
@@ -124,12 +124,12 @@ kept-size r v P Q s l h p q d =
     let z = r .low in
     let whole : stacked (totalOf x) (totalOf y) (totalOf z) ≡ signed s v =
     rw (total-is x (total-range (r .count) x (g .high) l), total-is y (total-range (r .count) y (g .middle) l), total-is z (total-range (r .count) z (g .low) l))
-    (stacked-is (2 ^ 40) totalRaise (raisedTotal x) (raisedTotal y) (raisedTotal z) ∙ ap₂ _⊝_ (sym p) (sym q) ∙ distance-is s v P Q d) in
+    (stacked-is (2 ^ 40) totalRaise (raisedTotal x) (raisedTotal y) (raisedTotal z) ∙ ap₂ _⊝_ (sym p) (sym q) ∙ difference-is s v P Q d) in
     let up : kept (meaning r) *ℤ pos (2 ^ 80) ≡ signed s (v * unit (r .top)) =
     kept-up (r .top) (totalOf x) (totalOf y) (totalOf z) (λ o. empty-total y (g .second o)) (λ o. empty-total z (g .third o))
     ∙ ap (λ (m : ℤ). m *ℤ pos (unit (r .top))) whole ∙ signed-mul s v (unit (r .top)) in (
       sym (scaled-size (kept (meaning r)) (2 ^ 80)) ∙ ap natAbs up ∙ natAbs-signed s (v * unit (r .top)),
-      sign-is (kept (meaning r)) s (2 ^ 80) (v * unit (r .top)) (pow-pos 80) (λ e. mul-pos (distance-some s v P Q d e) (pow-pos (40 * r .top))) up,
+      sign-is (kept (meaning r)) s (2 ^ 80) (v * unit (r .top)) (pow-pos 80) (λ e. mul-pos (difference-some s v P Q d e) (pow-pos (40 * r .top))) up,
     )
 
 -- ---- the limbs in units
@@ -155,7 +155,7 @@ last-lt r h k l = omega arith
 -- ---- a distance of 0
 
 -- the kept value is 0 then, and not a negative one
-pub no-sign : (v : ℕ) (s : Bool) (p q : ℕ) → v ≡ 0 → Distance s v p q → s ≡ false
+pub no-sign : (v : ℕ) (s : Bool) (p q : ℕ) → v ≡ 0 → SignedDifference s v p q → s ≡ false
 no-sign v false p q e h = refl
 no-sign v true p q e h = absurd (lt-irrefl 0 (omega arith))
 

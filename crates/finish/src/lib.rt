@@ -114,7 +114,7 @@ pub fn record_sum(r: Record) -> SectionSum
     requires { ⌜ T (soundRecord r) ⌝ }
     ensures { λ x. ⌜ x ≡ sumFor (kept (meaning r)) ⌝ }
 {
-    let d = limbs::distance(raised_limbs(r.high, r.middle, r.low), raise());
+    let d = limbs::abs_diff(raised_limbs(r.high, r.middle, r.low), raise());
     let size = d.limbs;
     if limbs::is_zero(size) {
         return SectionSum::Finite(0.0);
@@ -140,11 +140,11 @@ fn nearest_hundredths(m: u64, r: u64, negative: bool) -> u64
 }
 
 // How many binary digits of the significand stand below 1.
-fn places(field: u64) -> u64
-    requires { ⌜ field ≤ 1074 ⌝ }
-    ensures { λ r. ⌜ (r + (field - 1) ≡ 1074) × (0 < r) ⌝ }
+fn places(exponent: u64) -> u64
+    requires { ⌜ exponent ≤ 1074 ⌝ }
+    ensures { λ r. ⌜ (r + (exponent - 1) ≡ 1074) × (0 < r) ⌝ }
 {
-    if field == 0 { 1074 } else { 1075 - field }
+    if exponent == 0 { 1074 } else { 1075 - exponent }
 }
 
 // The figure of a sign and a size, if it is in range.
@@ -166,13 +166,13 @@ fn figure_of(sum: f64) -> FigureAnswer
     ensures { λ r. ⌜ figureAnswer r ≡ cond (beyond (millFigure sum)) (refused 15) (accepted (millFigure sum)) ⌝ }
 {
     let bits = f64::to_bits(sum);
-    let field = level::exponent_field(bits);
-    if field > 1074 {
+    let exponent = level::exponent_field(bits);
+    if exponent > 1074 {
         return FigureAnswer::Refused(Refusal::FigureTooLarge);
     }
     let negative = level::is_negative(bits);
     figure_of_size(
-        nearest_hundredths(level::digits(bits), places(field), negative),
+        nearest_hundredths(level::significand(bits), places(exponent), negative),
         negative,
     )
 }
@@ -229,10 +229,10 @@ enum Lookup {
 fn look_up(table: &[u8], g: usize, key: u32) -> Lookup
     ensures { λ r. ⌜ LookedUp r (now (table .entry)) g key ⌝ }
 {
-    if !record::is_sound(table, g) {
+    if !soundness::is_sound(table, g) {
         return Lookup::Unsound;
     }
-    match record::find(table, g, key) {
+    match record::binary_search(table, g, key) {
         Place::At(i) => Lookup::Found(record::get(table, i)),
         Place::Gap(_) => Lookup::Missing,
     }

@@ -14,11 +14,11 @@ use Rattle.lists.proofs.All.{All}
 use Rattle.history.specs.Calls.{Call, add, merge, ask, lendsBytes, addRowsGrounds, mergeRowsGrounds, Ledger, noRows, put, setRows, stepRows, ledgerAfter}
 use Rattle.history.specs.Run.{Store, State, noGroups, setTable, step, stateAfter, groupsAre, answer, answers, answerRows, answersRows, refuses}
 use Rattle.history.proofs.Questions.{ask-is, ask-not-7}
-use Rattle.history.proofs.Tables.{Holds, holds-none, sound-is, add-outcome, add-holds, merge-outcome, merge-holds}
+use Rattle.history.proofs.Tables.{HoldsRows, holds-none, sound-is, add-outcome, add-holds, merge-outcome, merge-holds}
 
 -- the state is that of the ledger, where table i's buffer held the bytes start i
 pub record Agrees (start : ℕ → List ℕ) (s : State) (l : Ledger) : Type 0 where
-  pub tables : (i : ℕ) → Holds (start i) (s .tables i) (l .rows i)
+  pub tables : (i : ℕ) → HoldsRows (start i) (s .tables i) (l .rows i)
 
 module _ (start : ℕ → List ℕ) where
   -- the lengths of the tables' buffers
@@ -28,11 +28,11 @@ module _ (start : ℕ → List ℕ) where
   pub agrees-none : Agrees start (noGroups start) noRows
   agrees-none = record { tables = λ i. holds-none (start i) }
 
-  agrees-set : (s : State) (l : Ledger) → Agrees start s l → (i : ℕ) (t : Store) (rows : List Row) → Holds (start i) t rows
+  agrees-set : (s : State) (l : Ledger) → Agrees start s l → (i : ℕ) (t : Store) (rows : List Row) → HoldsRows (start i) t rows
       → Agrees start (setTable i t s) (setRows i rows l)
   agrees-set s l a i t rows h = record { tables = λ j. go j (ℕ-discrete j i) }
     where
-      go : (j : ℕ) → Dec (j ≡ i) → Holds (start j) (put i t (s .tables) j) (put i rows (l .rows) j)
+      go : (j : ℕ) → Dec (j ≡ i) → HoldsRows (start j) (put i t (s .tables) j) (put i rows (l .rows) j)
       go j (yes e) = rw (eq-eqb j i e, e) h
       go j (no e) = rw (ne-eqb j i e) (a .tables j)
 

@@ -13,26 +13,26 @@ use Rattle.record.specs.Section.{Section, find}
 use Rattle.columns.specs.Columns.{Row}
 use Rattle.table.specs.Combine.{ofRow, absorb, merged, added}
 use Rattle.table.proofs.Lookup.{Above, Rising, keysIn, Tri, less, same, more, tri, find-nil, find-head, find-tail, find-ext, absorb-rising, merged-rising, join, only, only-is, only-not, find-absorb, find-merged}
-use Rattle.history.specs.Rows.{valuesOf, insertKey, sectionNumbers}
+use Rattle.history.specs.Rows.{sectionBits, insertKey, sectionNumbers}
 use Rattle.history.specs.Canonical.{sectionOf, sectionIf, canonical}
 use Rattle.history.proofs.Sections.{section-key, row-section, join-sections}
 
 -- ---- the rows of a section
-pub values-is : (k : ℕ) (r : Row) (rs : List Row) → k ≡ r .key → valuesOf k (r ∷ rs) ≡ r .bits ∷ valuesOf k rs
-unfolding valuesOf
-values-is k r rs e = rw (eq-eqb k (r .key) e)
+pub values-is : (k : ℕ) (r : Row) (rs : List Row) → k ≡ r .key → sectionBits k (r ∷ rs) ≡ r .bits ∷ sectionBits k rs
+unfolding sectionBits
+values-is k r rs e = rw (eq-eqb k (r .key) e) refl
 
-pub values-not : (k : ℕ) (r : Row) (rs : List Row) → (k ≡ r .key → ⊥) → valuesOf k (r ∷ rs) ≡ valuesOf k rs
-unfolding valuesOf
+pub values-not : (k : ℕ) (r : Row) (rs : List Row) → (k ≡ r .key → ⊥) → sectionBits k (r ∷ rs) ≡ sectionBits k rs
+unfolding sectionBits
 values-not k r rs e = rw (ne-eqb k (r .key) e)
 
-pub values-append : (k : ℕ) (xs ys : List Row) → valuesOf k (xs ++ ys) ≡ valuesOf k xs ++ valuesOf k ys
-unfolding valuesOf
+pub values-append : (k : ℕ) (xs ys : List Row) → sectionBits k (xs ++ ys) ≡ sectionBits k xs ++ sectionBits k ys
+unfolding sectionBits
 values-append k [] ys = refl
 values-append k (x ∷ xs) ys = go (values-append k xs ys) (eqb k (x .key))
   where
-    go : valuesOf k (xs ++ ys) ≡ valuesOf k xs ++ valuesOf k ys → (b : Bool)
-        → cond b (x .bits ∷ valuesOf k (xs ++ ys)) (valuesOf k (xs ++ ys)) ≡ cond b (x .bits ∷ valuesOf k xs) (valuesOf k xs) ++ valuesOf k ys
+    go : sectionBits k (xs ++ ys) ≡ sectionBits k xs ++ sectionBits k ys → (b : Bool)
+        → cond b (x .bits ∷ sectionBits k (xs ++ ys)) (sectionBits k (xs ++ ys)) ≡ cond b (x .bits ∷ sectionBits k xs) (sectionBits k xs) ++ sectionBits k ys
     go ih true = ap (λ (l : List ℕ). x .bits ∷ l) ih
     go ih false = ih
 
@@ -69,13 +69,13 @@ nonEmpty [] = false
 nonEmpty (b ∷ bs) = true
 
 find-numbers : (F : ℕ → Section) → ((k : ℕ) → (F k) .key ≡ k) → (k : ℕ) (rows : List Row)
-    → find k (map F (sectionNumbers rows)) ≡ cond (nonEmpty (valuesOf k rows)) (some (F k)) none
-unfolding sectionNumbers valuesOf
+    → find k (map F (sectionNumbers rows)) ≡ cond (nonEmpty (sectionBits k rows)) (some (F k)) none
+unfolding sectionNumbers sectionBits
 find-numbers F keyed k [] = find-nil k
 find-numbers F keyed k (r ∷ rs) = find-insert F keyed k (r .key) (sectionNumbers rs) ∙ go (find-numbers F keyed k rs) (eqb k (r .key))
   where
-    go : find k (map F (sectionNumbers rs)) ≡ cond (nonEmpty (valuesOf k rs)) (some (F k)) none → (b : Bool)
-        → cond b (some (F k)) (find k (map F (sectionNumbers rs))) ≡ cond (nonEmpty (cond b (r .bits ∷ valuesOf k rs) (valuesOf k rs))) (some (F k)) none
+    go : find k (map F (sectionNumbers rs)) ≡ cond (nonEmpty (sectionBits k rs)) (some (F k)) none → (b : Bool)
+        → cond b (some (F k)) (find k (map F (sectionNumbers rs))) ≡ cond (nonEmpty (cond b (r .bits ∷ sectionBits k rs) (sectionBits k rs))) (some (F k)) none
     go ih true = refl
     go ih false = ih
 
@@ -84,10 +84,10 @@ unfolding sectionIf
 if-nonEmpty k [] = refl
 if-nonEmpty k (b ∷ bs) = refl
 
-pub find-canonical : (k : ℕ) (rows : List Row) → find k (canonical rows) ≡ sectionIf k (valuesOf k rows)
+pub find-canonical : (k : ℕ) (rows : List Row) → find k (canonical rows) ≡ sectionIf k (sectionBits k rows)
 unfolding canonical
 find-canonical k rows =
-    find-numbers (λ l. sectionOf l (valuesOf l rows)) (λ l. section-key l (topOf (valuesOf l rows)) (valuesOf l rows)) k rows ∙ if-nonEmpty k (valuesOf k rows)
+    find-numbers (λ l. sectionOf l (sectionBits l rows)) (λ l. section-key l (topOf (sectionBits l rows)) (sectionBits l rows)) k rows ∙ if-nonEmpty k (sectionBits k rows)
 
 -- ---- its keys rise
 insert-above : (k a : ℕ) (ls : List ℕ) → k < a → Above k ls → Above k (insertKey a ls)
@@ -121,14 +121,14 @@ numbers-back g (l ∷ ls) = ap₂ _∷_ (section-key l (topOf (g l)) (g l)) (num
 
 pub canonical-rising : (rows : List Row) → Rising (keysIn (canonical rows))
 unfolding canonical
-canonical-rising rows = rw (numbers-back (λ k. valuesOf k rows) (sectionNumbers rows)) (numbers-rising rows)
+canonical-rising rows = rw (numbers-back (λ k. sectionBits k rows) (sectionNumbers rows)) (numbers-rising rows)
 
 -- ---- it is the one rising table in which the sections of the rows are found
-pub is-canonical : (ts : List Section) (rows : List Row) → Rising (keysIn ts) → ((k : ℕ) → find k ts ≡ sectionIf k (valuesOf k rows)) → ts ≡ canonical rows
+pub is-canonical : (ts : List Section) (rows : List Row) → Rising (keysIn ts) → ((k : ℕ) → find k ts ≡ sectionIf k (sectionBits k rows)) → ts ≡ canonical rows
 is-canonical ts rows a e = find-ext ts (canonical rows) a (canonical-rising rows) (λ k. e k ∙ sym (find-canonical k rows))
 
-only-row : (r : Row) (l : ℕ) → Dec (l ≡ r .key) → only l (sectionOf (r .key) (r .bits ∷ [])) ≡ sectionIf l (valuesOf l (r ∷ []))
-unfolding sectionIf valuesOf
+only-row : (r : Row) (l : ℕ) → Dec (l ≡ r .key) → only l (sectionOf (r .key) (r .bits ∷ [])) ≡ sectionIf l (sectionBits l (r ∷ []))
+unfolding sectionIf sectionBits
 only-row r l (yes e) =
     only-is l _ (e ∙ sym (section-key (r .key) (topOf (r .bits ∷ [])) (r .bits ∷ []))) ∙ rw (values-is l r [] e) (ap (λ (k : ℕ). some (sectionOf k (r .bits ∷ []))) (sym e))
 only-row r l (no e) = only-not l _ (λ q. e (q ∙ section-key (r .key) (topOf (r .bits ∷ [])) (r .bits ∷ []))) ∙ rw (values-not l r [] e)
@@ -138,7 +138,7 @@ absorb-row rows r =
     is-canonical _ (rows ++ (r ∷ [])) (absorb-rising _ (canonical rows) (canonical-rising rows))
     (λ l. find-absorb (ofRow r) l (canonical rows) (canonical-rising rows)
     ∙ ap₂ join (find-canonical l rows) (ap (only l) (row-section r) ∙ only-row r l (ℕ-discrete l (r .key)))
-    ∙ join-sections l (valuesOf l rows) (valuesOf l (r ∷ []))
+    ∙ join-sections l (sectionBits l rows) (sectionBits l (r ∷ []))
     ∙ ap (sectionIf l) (sym (values-append l rows (r ∷ []))))
 
 pub added-canonical : (rows rs : List Row) → added (canonical rows) rs ≡ canonical (rows ++ rs)
@@ -152,5 +152,5 @@ merged-canonical xs ys =
     is-canonical _ (xs ++ ys) (merged-rising (canonical xs) (canonical ys) (canonical-rising xs))
     (λ l. find-merged (canonical xs) (canonical ys) l (canonical-rising xs) (canonical-rising ys)
     ∙ ap₂ join (find-canonical l xs) (find-canonical l ys)
-    ∙ join-sections l (valuesOf l xs) (valuesOf l ys)
+    ∙ join-sections l (sectionBits l xs) (sectionBits l ys)
     ∙ ap (sectionIf l) (sym (values-append l xs ys)))

@@ -14,7 +14,7 @@ use Rattle.record.specs.Section.{sectionBytes, find}
 use Rattle.lists.specs.Lists.{anyOf}
 use Rattle.lists.proofs.All.{All, any-false}
 use Rattle.table.proofs.Bytes.{length-sectionBytes}
-use Rattle.history.specs.Rows.{SameRows, valuesOf}
+use Rattle.history.specs.Rows.{SameRows, sectionBits}
 use Rattle.history.specs.Canonical.{sectionOf, sectionIf, canonical}
 use Rattle.history.specs.Calls.{Question, Call, lendsBytes, noRows}
 use Rattle.history.specs.Run.{Store, askTable, askRows, answers, answersRows, refuses}
@@ -24,7 +24,7 @@ use Rattle.history.proofs.Canonical.{find-canonical}
 use Rattle.history.proofs.Order.{canonical-same}
 use Rattle.history.proofs.Near.{near}
 use Rattle.history.proofs.Questions.{ask-is, ask-same}
-use Rattle.history.proofs.Tables.{Holds, sound-is}
+use Rattle.history.proofs.Tables.{HoldsRows, sound-is}
 use Rattle.history.proofs.Calls.{agrees-none, agrees-after, answers-are, answers-not-7}
 
 -- a section has a record where it has a row, and just there
@@ -47,7 +47,7 @@ module _ (h : History) where
   answered-is = answers-are (h .start) (empty h) noRows (agrees-none (h .start)) (h .calls) lent-is
 
   module _ (i : ℕ) where
-    holds-is : Holds (h .start i) (table h i) (rows h i)
+    holds-is : HoldsRows (h .start i) (table h i) (rows h i)
     holds-is = agrees-after (h .start) (empty h) noRows (agrees-none (h .start)) (h .calls) lent-is .tables i
 
     table-sound : sound (table h i .bytes) (table h i .groups) ≡ true
@@ -59,7 +59,7 @@ module _ (h : History) where
         ap₂ (λ (g : ℕ) (s : List ℕ). take (64 * g) s) (holds-is .groups) (holds-is .bytes)
         ∙ take-at (sectionBytes (canonical (rows h i))) (drop n (h .start i)) n (length-sectionBytes (canonical (rows h i)))
 
-    found-is : (k : ℕ) → find k (sectionsIn (table h i)) ≡ sectionIf k (valuesOf k (rows h i))
+    found-is : (k : ℕ) → find k (sectionsIn (table h i)) ≡ sectionIf k (sectionBits k (rows h i))
     found-is k = ap (find k) (holds-is .holds) ∙ find-canonical k (rows h i)
 
     answer-is : (q : Question) → askTable (table h i) q ≡ askRows (rows h i) q
@@ -81,11 +81,11 @@ demand3 = record {
   same-bytes = alike used (λ xs. sectionBytes (canonical xs)) (λ xs ys e. ap sectionBytes (canonical-same xs ys e)) used-are;
   same-answer = λ h h′ i j q. alike (λ t. askTable t q) (λ xs. askRows xs q) (ask-same q) (λ h i. answer-is h i q) h h′ i j;
   fixed-answer = answer-is;
-  absent = λ h i k e. found-is h i k ∙ absent-is k (valuesOf k (rows h i)) e;
+  absent = λ h i k e. found-is h i k ∙ absent-is k (sectionBits k (rows h i)) e;
   present = λ h i k l. (
-    sectionOf k (valuesOf k (rows h i)),
-    found-is h i k ∙ present-is k (valuesOf k (rows h i)) l,
-    section-count k (topOf (valuesOf k (rows h i))) (valuesOf k (rows h i)),
-    near k (valuesOf k (rows h i)),
+    sectionOf k (sectionBits k (rows h i)),
+    found-is h i k ∙ present-is k (sectionBits k (rows h i)) l,
+    section-count k (topOf (sectionBits k (rows h i))) (sectionBits k (rows h i)),
+    near k (sectionBits k (rows h i)),
   );
 }

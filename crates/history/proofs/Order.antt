@@ -10,7 +10,7 @@ use borrow.Author.Tests.{eq-eqb, ne-eqb}
 use Rattle.record.specs.Section.{Section}
 use Rattle.columns.specs.Columns.{Row}
 use Rattle.table.proofs.Lookup.{join, join-assoc}
-use Rattle.history.specs.Rows.{equalRows, occurs, SameRows, valuesOf}
+use Rattle.history.specs.Rows.{equalRows, occurs, SameRows, sectionBits}
 use Rattle.history.specs.Canonical.{sectionIf, canonical}
 use Rattle.history.proofs.Sections.{join-sections, join-comm}
 use Rattle.history.proofs.Canonical.{values-append, is-canonical, find-canonical, canonical-rising}
@@ -84,24 +84,24 @@ permuted (x ∷ xs) ys h = go (permuted xs) (pull x ys (omega (arith, h x, occur
 module _ (k : ℕ) where
   -- the section of one row, where it has the number k
   abbrev one : Row → Option Section
-  one x = sectionIf k (valuesOf k (x ∷ []))
+  one x = sectionIf k (sectionBits k (x ∷ []))
 
-  cons : (x : Row) (xs : List Row) → sectionIf k (valuesOf k (x ∷ xs)) ≡ join (one x) (sectionIf k (valuesOf k xs))
-  cons x xs = ap (sectionIf k) (values-append k (x ∷ []) xs) ∙ sym (join-sections k (valuesOf k (x ∷ [])) (valuesOf k xs))
+  cons : (x : Row) (xs : List Row) → sectionIf k (sectionBits k (x ∷ xs)) ≡ join (one x) (sectionIf k (sectionBits k xs))
+  cons x xs = ap (sectionIf k) (values-append k (x ∷ []) xs) ∙ sym (join-sections k (sectionBits k (x ∷ [])) (sectionBits k xs))
 
-  two : (x y : Row) (xs : List Row) → sectionIf k (valuesOf k (x ∷ y ∷ xs)) ≡ join (join (one x) (one y)) (sectionIf k (valuesOf k xs))
-  two x y xs = cons x (y ∷ xs) ∙ ap (join (one x)) (cons y xs) ∙ sym (join-assoc (one x) (one y) (sectionIf k (valuesOf k xs)))
+  two : (x y : Row) (xs : List Row) → sectionIf k (sectionBits k (x ∷ y ∷ xs)) ≡ join (join (one x) (one y)) (sectionIf k (sectionBits k xs))
+  two x y xs = cons x (y ∷ xs) ∙ ap (join (one x)) (cons y xs) ∙ sym (join-assoc (one x) (one y) (sectionIf k (sectionBits k xs)))
 
-  section-permuted : {xs ys : List Row} → Permutation xs ys → sectionIf k (valuesOf k xs) ≡ sectionIf k (valuesOf k ys)
+  section-permuted : {xs ys : List Row} → Permutation xs ys → sectionIf k (sectionBits k xs) ≡ sectionIf k (sectionBits k ys)
   section-permuted still = refl
   section-permuted (skip {x = x} {xs = xs} {ys = ys} h) = cons x xs ∙ ap (join (one x)) (section-permuted h) ∙ sym (cons x ys)
   section-permuted (swap {x = x} {y = y} {xs = xs}) =
       two x y xs
-      ∙ ap (λ (o : Option Section). join o (sectionIf k (valuesOf k xs))) (join-comm k (valuesOf k (x ∷ [])) (valuesOf k (y ∷ [])))
+      ∙ ap (λ (o : Option Section). join o (sectionIf k (sectionBits k xs))) (join-comm k (sectionBits k (x ∷ [])) (sectionBits k (y ∷ [])))
       ∙ sym (two y x xs)
   section-permuted (both h l) = section-permuted h ∙ section-permuted l
 
-pub section-same : (k : ℕ) (xs ys : List Row) → SameRows xs ys → sectionIf k (valuesOf k xs) ≡ sectionIf k (valuesOf k ys)
+pub section-same : (k : ℕ) (xs ys : List Row) → SameRows xs ys → sectionIf k (sectionBits k xs) ≡ sectionIf k (sectionBits k ys)
 section-same k xs ys h = section-permuted k (permuted xs ys (h .counts))
 
 pub canonical-same : (xs ys : List Row) → SameRows xs ys → canonical xs ≡ canonical ys

@@ -12,7 +12,7 @@ use Rattle.finish.specs.Finish.{finishing, sumOf, figureOf, lineOf, figureFor}
 use Rattle.finish.specs.Sum.{tooLarge}
 use Rattle.finish.specs.Figure.{beyond}
 use Rattle.columns.specs.Columns.{Row}
-use Rattle.history.specs.Rows.{SameRows, valuesOf}
+use Rattle.history.specs.Rows.{SameRows, sectionBits}
 use Rattle.history.specs.Canonical.{sectionIf, canonical}
 use Rattle.history.specs.Calls.{Question, sum, figure, line}
 use Rattle.history.specs.Run.{Store, sumIs, figureIs, lineIs, askTable, askRows, refuses}
@@ -21,7 +21,7 @@ use Rattle.history.proofs.Order.{section-same}
 
 -- ---- in a sound table with the sections of some rows
 module _ (t : Store) (rows : List Row) (h : sound (t .bytes) (t .groups) ≡ true) (e : sections (t .bytes) (t .groups) ≡ canonical rows) where
-  finishing-is : {A : Type 0} (F : Option Section → Outcome A) (k : ℕ) → finishing F (t .bytes) (t .groups) k ≡ F (sectionIf k (valuesOf k rows))
+  finishing-is : {A : Type 0} (F : Option Section → Outcome A) (k : ℕ) → finishing F (t .bytes) (t .groups) k ≡ F (sectionIf k (sectionBits k rows))
   finishing-is F k = rw (h, e, find-canonical k rows)
 
   pub ask-is : (q : Question) → askTable t q ≡ askRows rows q
@@ -55,6 +55,6 @@ line-not-7 (some s) = not-given 7 (ground 14 (tooLarge (kept s)) ∷ ground 15 (
 
 pub ask-not-7 : (rows : List Row) (q : Question) → refuses 7 (askRows rows q) ≡ false
 unfolding askRows
-ask-not-7 rows (sum k) = sum-not-7 (sectionIf k (valuesOf k rows))
-ask-not-7 rows (figure k) = figure-not-7 (sectionIf k (valuesOf k rows))
-ask-not-7 rows (line k) = line-not-7 (sectionIf k (valuesOf k rows))
+ask-not-7 rows (sum k) = sum-not-7 (sectionIf k (sectionBits k rows))
+ask-not-7 rows (figure k) = figure-not-7 (sectionIf k (sectionBits k rows))
+ask-not-7 rows (line k) = line-not-7 (sectionIf k (sectionBits k rows))

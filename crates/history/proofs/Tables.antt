@@ -21,12 +21,12 @@ use Rattle.record.specs.Section.{Section, sections, written}
 use Rattle.table.specs.Combine.{added, merged}
 use Rattle.table.specs.Calls.{overflows, leaves, addSections, columnGrounds, addGrounds, addOutcome, mergeSections, mergeGrounds, mergeOutcome}
 use Rattle.lists.specs.Lists.{anyOf}
-use Rattle.lists.proofs.Booleans.{and-true}
+use Rattle.lists.proofs.Booleans.{both-true}
 use Rattle.lists.proofs.All.{any-map}
 use Rattle.table.proofs.Lookup.{merged-length}
 use Rattle.table.proofs.Bytes.{written-over}
 use Rattle.table.proofs.Accepted.{ProperTable, proper-none, Left, add-left, merge-left}
-use Rattle.history.specs.Rows.{valuesOf, sectionNumbers}
+use Rattle.history.specs.Rows.{sectionBits, sectionNumbers}
 use Rattle.history.specs.Canonical.{sectionAtTop, sectionOf, canonical}
 use Rattle.history.specs.Calls.{tooManyRows, tooManyKeys, addRowsGrounds, addRowsOutcome, mergeRowsGrounds, mergeRowsOutcome, extended}
 use Rattle.history.specs.Run.{Store, after, afterAdd, afterMerge}
@@ -35,11 +35,11 @@ use Rattle.history.proofs.Canonical.{added-canonical, merged-canonical}
 -- ---- 11 and 12 on the sections of rows
 pub few-canonical : (rows : List Row) → anyOf overflows (canonical rows) ≡ tooManyRows rows
 unfolding tooManyRows canonical sectionAtTop
-few-canonical rows = any-map overflows (λ k. sectionOf k (valuesOf k rows)) (sectionNumbers rows)
+few-canonical rows = any-map overflows (λ k. sectionOf k (sectionBits k rows)) (sectionNumbers rows)
 
 pub length-canonical : (rows : List Row) → length (canonical rows) ≡ length (sectionNumbers rows)
 unfolding canonical
-length-canonical rows = length-map (sectionNumbers rows) (λ k. sectionOf k (valuesOf k rows))
+length-canonical rows = length-map (sectionNumbers rows) (λ k. sectionOf k (sectionBits k rows))
 
 pub room-canonical : (len : ℕ) (rows : List Row) → ltb (capacity len) (length (canonical rows)) ≡ tooManyKeys len rows
 unfolding tooManyKeys
@@ -51,30 +51,30 @@ longer rows new = subst (λ (ts : List Section). length (canonical rows) ≤ len
 -- ---- a table and its rows
 
 -- the table t, in a buffer that held the bytes `start`, holds these rows
-pub record Holds (start : List ℕ) (t : Store) (rows : List Row) : Type 0 where
+pub record HoldsRows (start : List ℕ) (t : Store) (rows : List Row) : Type 0 where
   pub table : ProperTable (t .bytes) (t .groups)
   pub holds : sections (t .bytes) (t .groups) ≡ canonical rows
   pub groups : t .groups ≡ length (canonical rows)
   pub bytes : t .bytes ≡ written (canonical rows) start
   pub size : length (t .bytes) ≡ length start
 
-pub holds-none : (start : List ℕ) → Holds start (record { bytes = start; groups = 0 }) []
+pub holds-none : (start : List ℕ) → HoldsRows start (record { bytes = start; groups = 0 }) []
 unfolding canonical sectionNumbers image cells
 holds-none start = record { table = proper-none start; holds = refl; groups = refl; bytes = refl; size = refl }
 
 pub are-bytes : (s : List ℕ) → areBytes s ≡ true → AreBytes s
 are-bytes [] e i = omega arith
-are-bytes (b ∷ bs) e zero = ltb-true b 256 (and-true (ltb b 256) (areBytes bs) e .0)
-are-bytes (b ∷ bs) e (suc i) = are-bytes bs (and-true (ltb b 256) (areBytes bs) e .1) i
+are-bytes (b ∷ bs) e zero = ltb-true b 256 (both-true (ltb b 256) (areBytes bs) e .0)
+are-bytes (b ∷ bs) e (suc i) = are-bytes bs (both-true (ltb b 256) (areBytes bs) e .1) i
 
-module _ (start : List ℕ) (t : Store) (rows : List Row) (h : Holds start t rows) where
+module _ (start : List ℕ) (t : Store) (rows : List Row) (h : HoldsRows start t rows) where
   pub sound-is : sound (t .bytes) (t .groups) ≡ true
   sound-is = is-true (sound (t .bytes) (t .groups)) (h .table .is-sound)
 
   -- a call that would give it the sections of its rows and of new ones: accepted it holds all of them, refused what it held
   after-holds : (new : List Row) (ts : List Section) → ts ≡ canonical (rows ++ new) → (o : Outcome ℕ)
       → ((n : ℕ) → o ≡ accepted n → Left (t .bytes) ts (leaves o ts (t .bytes)) n)
-      → Holds start (after o (leaves o ts (t .bytes)) (t .groups)) (extended o rows new)
+      → HoldsRows start (after o (leaves o ts (t .bytes)) (t .groups)) (extended o rows new)
   after-holds new ts e (accepted n) f =
       let l = f n refl in
       record {
@@ -101,15 +101,15 @@ module _ (start : List ℕ) (t : Store) (rows : List Row) (h : Holds start t row
         )
 
     pub add-holds : (areBytes ks && areBytes vs) ≡ true
-        → Holds start (afterAdd kind t ks vs work) (extended (addRowsOutcome kind (length start) rows ks vs work) rows (rowsOf kind ks vs))
+        → HoldsRows start (afterAdd kind t ks vs work) (extended (addRowsOutcome kind (length start) rows ks vs work) rows (rowsOf kind ks vs))
     add-holds b =
-        subst (λ (o : Outcome ℕ). Holds start (afterAdd kind t ks vs work) (extended o rows (rowsOf kind ks vs))) add-outcome
+        subst (λ (o : Outcome ℕ). HoldsRows start (afterAdd kind t ks vs work) (extended o rows (rowsOf kind ks vs))) add-outcome
         (after-holds (rowsOf kind ks vs) (addSections kind (t .bytes) (t .groups) ks vs)
         (ap (λ (ts : List Section). added ts (rowsOf kind ks vs)) (h .holds) ∙ added-canonical rows (rowsOf kind ks vs))
         (addOutcome kind (t .bytes) (t .groups) ks vs work)
-        (λ n. add-left (t .bytes) (t .groups) (h .table) kind ks vs work (are-bytes ks (and-true (areBytes ks) (areBytes vs) b .0))))
+        (λ n. add-left (t .bytes) (t .groups) (h .table) kind ks vs work (are-bytes ks (both-true (areBytes ks) (areBytes vs) b .0))))
 
-  module _ (start′ : List ℕ) (u : Store) (others : List Row) (g : Holds start′ u others) where
+  module _ (start′ : List ℕ) (u : Store) (others : List Row) (g : HoldsRows start′ u others) where
     pub merge-outcome : mergeOutcome (t .bytes) (t .groups) (u .bytes) (u .groups) ≡ mergeRowsOutcome (length start) rows others
     unfolding mergeGrounds mergeRowsGrounds
     merge-outcome =
@@ -125,9 +125,9 @@ module _ (start : List ℕ) (t : Store) (rows : List Row) (h : Holds start t row
           length-canonical (rows ++ others),
         )
 
-    pub merge-holds : Holds start (afterMerge t u) (extended (mergeRowsOutcome (length start) rows others) rows others)
+    pub merge-holds : HoldsRows start (afterMerge t u) (extended (mergeRowsOutcome (length start) rows others) rows others)
     merge-holds =
-        subst (λ (o : Outcome ℕ). Holds start (afterMerge t u) (extended o rows others)) merge-outcome
+        subst (λ (o : Outcome ℕ). HoldsRows start (afterMerge t u) (extended o rows others)) merge-outcome
         (after-holds others (mergeSections (t .bytes) (t .groups) (u .bytes) (u .groups))
         (ap₂ merged (h .holds) (g .holds) ∙ merged-canonical rows others)
         (mergeOutcome (t .bytes) (t .groups) (u .bytes) (u .groups))

@@ -11,7 +11,7 @@ use Rattle.columns.specs.Columns.{Row, rowsOf}
 use Rattle.record.specs.Layout.{capacity}
 use Rattle.table.specs.Calls.{mostRows, lentGrounds}
 use Rattle.lists.specs.Lists.{anyOf}
-use Rattle.history.specs.Rows.{valuesOf, sectionNumbers}
+use Rattle.history.specs.Rows.{sectionBits, sectionNumbers}
 
 -- what is asked of a table: the sum, the mill figure or the finished line of a section
 pub data Question : Type 0 where
@@ -34,7 +34,7 @@ lendsBytes (ask i q) = true
 
 -- a section has more rows than its count can say
 unfoldable pub tooManyRows : List Row → Bool
-tooManyRows rows = anyOf (λ k. ltb mostRows (length (valuesOf k rows))) (sectionNumbers rows)
+tooManyRows rows = anyOf (λ k. ltb mostRows (length (sectionBits k rows))) (sectionNumbers rows)
 
 -- more distinct section numbers than a buffer of len bytes has room for
 unfoldable pub tooManyKeys : ℕ → List Row → Bool

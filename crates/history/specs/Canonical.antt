@@ -6,7 +6,7 @@ use lib.ListN.{length}
 use Rattle.level.specs.Level.{topOf, total}
 use Rattle.record.specs.Section.{Section, sectionAt}
 use Rattle.columns.specs.Columns.{Row}
-use Rattle.history.specs.Rows.{valuesOf, sectionNumbers}
+use Rattle.history.specs.Rows.{sectionBits, sectionNumbers}
 
 -- section k of rows with the bits bs, held at top t: their number, t, and the sums of their contributions to the levels t, t - 1 and t - 2
 unfoldable pub sectionAtTop : ℕ → ℕ → List ℕ → Section
@@ -23,4 +23,4 @@ sectionIf k (b ∷ bs) = some (sectionOf k (b ∷ bs))
 
 -- the sections with a row, in rising order
 unfoldable pub canonical : List Row → List Section
-canonical rows = map (λ k. sectionOf k (valuesOf k rows)) (sectionNumbers rows)
+canonical rows = map (λ k. sectionOf k (sectionBits k rows)) (sectionNumbers rows)

@@ -20,7 +20,7 @@ use Rattle.record.specs.Sound.{soundTotal, isZero, soundRecord, soundRecords, s
 use Rattle.table.specs.Combine.{ofRow, levelOf, combine, absorb, merged, added}
 use Rattle.table.specs.Calls.{addGrounds, columnGrounds, mergeGrounds}
 use Rattle.lists.specs.Lists.{anyOf}
-use Rattle.history.specs.Rows.{valuesOf, insertKey, sectionNumbers}
+use Rattle.history.specs.Rows.{sectionBits, insertKey, sectionNumbers}
 use Rattle.history.specs.Canonical.{sectionAtTop, canonical}
 use Rattle.history.specs.Calls.{sum, figure, line, Call, add, merge, ask, tooManyRows, tooManyKeys, addRowsGrounds, mergeRowsGrounds, noRows, stepRows, ledgerAfter}
 use Rattle.history.specs.Demand3.{History}
@@ -63,7 +63,7 @@ ways =
     ∷ []
 
 one-table : map left ways ≡ replicate 6 (record { bytes = written (canonical rows) first; groups = 2 })
-unfolding left canonical sectionNumbers insertKey valuesOf sectionAtTop topOf total
+unfolding left canonical sectionNumbers insertKey sectionBits sectionAtTop topOf total
 one-table = refl
 
 -- a table merged twice counts twice, in the rows and in the record
@@ -76,7 +76,7 @@ unfolding left
 example = record { start = λ (i : ℕ). first; calls = twice; lent = refl }
 
 rows-twice : map (λ (r : Row). r .bits) (ledgerAfter (λ (i : ℕ). 128) noRows twice .rows 0) ≡ 1 ∷ 2 ∷ 2 ∷ []
-unfolding left ledgerAfter stepRows mergeRowsGrounds tooManyRows sectionNumbers addRowsGrounds insertKey valuesOf tooManyKeys
+unfolding left ledgerAfter stepRows mergeRowsGrounds tooManyRows sectionNumbers addRowsGrounds insertKey sectionBits tooManyKeys
 rows-twice = refl
 
 count-twice : map (λ (t : Section). t .count) (sections (left twice .bytes) 1) ≡ 3 ∷ []

@@ -11,7 +11,7 @@ use Rattle.columns.specs.Columns.{Row}
 use Rattle.record.specs.Sound.{sound}
 use Rattle.record.specs.Section.{Section, sections, written, find, kept}
 use Rattle.lists.specs.Lists.{anyOf}
-use Rattle.history.specs.Rows.{SameRows, valuesOf, largest}
+use Rattle.history.specs.Rows.{SameRows, sectionBits, largest}
 use Rattle.history.specs.Canonical.{canonical}
 use Rattle.history.specs.Calls.{Question, Call, lendsBytes, noRows, ledgerAfter}
 use Rattle.history.specs.Run.{Store, State, noGroups, stateAfter, askTable, askRows, answers, answersRows, refuses}
@@ -64,10 +64,10 @@ pub record Demand3 : Type 0 where
   -- and these are the answers that document 01 fixes for the rows
   pub fixed-answer : (h : History) (i : ℕ) (q : Question) → askTable (table h i) q ≡ askRows (rows h i) q
   -- a section without a row has no record
-  pub absent : (h : History) (i k : ℕ) → length (valuesOf k (rows h i)) ≡ 0 → find k (sectionsIn (table h i)) ≡ none
+  pub absent : (h : History) (i k : ℕ) → length (sectionBits k (rows h i)) ≡ 0 → find k (sectionsIn (table h i)) ≡ none
   -- a section with a row has one: its count is the number of its rows, and its kept value lies within
   -- (the number of its rows) × (its largest row in size) × 2^-80 of their exact sum
-  pub present : (h : History) (i k : ℕ) → 0 < length (valuesOf k (rows h i))
+  pub present : (h : History) (i k : ℕ) → 0 < length (sectionBits k (rows h i))
       → (s : Section) × (find k (sectionsIn (table h i)) ≡ some s)
-      × (s .count ≡ length (valuesOf k (rows h i)))
-      × (natAbs (kept s -ℤ exactSum (valuesOf k (rows h i))) * 2 ^ 80 ≤ length (valuesOf k (rows h i)) * largest (valuesOf k (rows h i)))
+      × (s .count ≡ length (sectionBits k (rows h i)))
+      × (natAbs (kept s -ℤ exactSum (sectionBits k (rows h i))) * 2 ^ 80 ≤ length (sectionBits k (rows h i)) * largest (sectionBits k (rows h i)))

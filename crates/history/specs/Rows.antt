@@ -21,9 +21,9 @@ pub record SameRows (xs ys : List Row) : Type 0 where
   pub counts : (r : Row) → occurs r xs ≡ occurs r ys
 
 -- the values of section k's rows, by their bits
-unfoldable pub valuesOf : ℕ → List Row → List ℕ
-valuesOf k [] = []
-valuesOf k (r ∷ rs) = cond (eqb k (r .key)) (r .bits ∷ valuesOf k rs) (valuesOf k rs)
+unfoldable pub sectionBits : ℕ → List Row → List ℕ
+sectionBits k [] = []
+sectionBits k (r ∷ rs) = cond (eqb k (r .key)) (r .bits ∷ sectionBits k rs) (sectionBits k rs)
 
 -- k put in its place among rising numbers, unless it is there
 unfoldable pub insertKey : ℕ → List ℕ → List ℕ

@@ -10,7 +10,7 @@ use Rattle.finish.specs.Finish.{sumOf, figureOf, lineOf, sumOutcome, figureOutc
 use Rattle.columns.specs.declared.Kind.{Kind}
 use Rattle.columns.specs.Columns.{Row}
 use Rattle.table.specs.Calls.{addOutcome, addLeaves, mergeOutcome, mergeLeaves}
-use Rattle.history.specs.Rows.{valuesOf}
+use Rattle.history.specs.Rows.{sectionBits}
 use Rattle.history.specs.Canonical.{sectionIf}
 use Rattle.history.specs.Calls.{Question, sum, figure, line, Call, add, merge, ask, Ledger, put, addRowsOutcome, mergeRowsOutcome, stepRows}
 
@@ -73,9 +73,9 @@ askTable t (line k) = lineIs (lineOutcome (t .bytes) (t .groups) k)
 
 -- what it is to answer by the table's rows alone
 unfoldable pub askRows : List Row → Question → Answer
-askRows rows (sum k) = sumIs (sumOf (sectionIf k (valuesOf k rows)))
-askRows rows (figure k) = figureIs (figureOf (sectionIf k (valuesOf k rows)))
-askRows rows (line k) = lineIs (lineOf (sectionIf k (valuesOf k rows)))
+askRows rows (sum k) = sumIs (sumOf (sectionIf k (sectionBits k rows)))
+askRows rows (figure k) = figureIs (figureOf (sectionIf k (sectionBits k rows)))
+askRows rows (line k) = lineIs (lineOf (sectionIf k (sectionBits k rows)))
 
 -- what a call in this state answers
 unfoldable pub answer : State → Call → Answer

@@ -10,7 +10,7 @@ use lib.IntN.{ℤ, pos, negℤ, negℤ-negℤ}
 use lib.Pow.{pow-pos, pow-add}
 use lib.Ieee.Nearest.{closest, closest-same}
 use borrow.Author.Tests.{lt-ltb, le-ltb}
-use Rattle.level.specs.Double.{signed, negative, field, significand, magnitude, value}
+use Rattle.level.specs.Double.{signed, negative, exponentField, significand, magnitude, value}
 use Rattle.level.specs.Level.{unit, nearestTo, left, given, below, top, contribution}
 use Rattle.level.specs.Cut.{shiftOf, apart, restOf, roundedUp, flippedIf}
 use Rattle.level.proofs.Near.{closest-small, closest-whole}
@@ -140,5 +140,5 @@ unfolding contribution
 row-scaled b k =
     sym (givenBelow-is (top b) (value b) k)
     ∙ givenBelow-scaled (2 ^ shiftOf b) (pow-pos (shiftOf b)) (top b) (negative b) (magnitude b) (significand b) k
-    (mul-assoc (significand b) (2 ^ (field b - 1)) (2 ^ shiftOf b)
-    ∙ ap (λ (w : ℕ). significand b * w) (sym (pow-add 2 (field b - 1) (shiftOf b)) ∙ ap (λ (e : ℕ). 2 ^ e) (omega (arith, top-place b))))
+    (mul-assoc (significand b) (2 ^ (exponentField b - 1)) (2 ^ shiftOf b)
+    ∙ ap (λ (w : ℕ). significand b * w) (sym (pow-add 2 (exponentField b - 1) (shiftOf b)) ∙ ap (λ (e : ℕ). 2 ^ e) (omega (arith, top-place b))))

@@ -7,7 +7,7 @@ use native.Mathlib.Omega.{arith}
 use lib.IntN.{ℤ, pos, negsuc, natAbs, _+ℤ_, _-ℤ_, _*ℤ_, +ℤ-idl, +ℤ-idr, +ℤ-assoc, +ℤ-comm, -ℤ-+ℤ-cancel}
 use lib.Pow.{pow-pos, pow-mono}
 use Rattle.integers.proofs.Laws.{size-zero}
-use Rattle.level.specs.Double.{negative, field, significand, magnitude, value}
+use Rattle.level.specs.Double.{negative, exponentField, significand, magnitude, value}
 use Rattle.level.specs.Level.{unit, left, given, top, contribution, below, levelSum}
 use Rattle.level.proofs.Given.{left-half, left-size}
 use Rattle.level.proofs.Near.{pow-sum}
@@ -104,4 +104,4 @@ after-exact t z n e q h l =
 pub levelSum-whole : (b : ℕ) → levelSum (contribution b) (top b) 3 ≡ value b
 levelSum-whole b =
     levelSum-all b (top b) 3 (le-refl (top b))
-    (after-exact (top b) (value b) 2 (field b - 1) (significand b) (natAbs-signed (negative b) (magnitude b)) (omega (arith, top-place b)))
+    (after-exact (top b) (value b) 2 (exponentField b - 1) (significand b) (natAbs-signed (negative b) (magnitude b)) (omega (arith, top-place b)))

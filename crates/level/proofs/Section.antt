@@ -37,7 +37,7 @@ unfolding total
 total-bound [] j = zero-le
 total-bound (b ∷ bs) j = omega (arith, natAbs-+ℤ (contribution b j) (total bs j), contribution-bound b j, total-bound bs j)
 
--- ---- columns are added level by level
+-- ---- families of totals are added level by level
 below-sum : (g h : ℕ → ℤ) (t k : ℕ) → below (λ (j : ℕ). g j +ℤ h j) t k ≡ below g t k +ℤ below h t k
 below-sum g h t k = by (leb k t)
   where

@@ -11,7 +11,7 @@ use lib.IntN.{ℤ, pos, negℤ, natAbs}
 use lib.Arith.{lt-one}
 use lib.Pow.{pow-mono, pow-add, shl-lt}
 use borrow.Author.Tests.{ltb-true, ltb-false}
-use Rattle.level.specs.Double.{negative, field, fraction, significand, magnitude, value}
+use Rattle.level.specs.Double.{negative, exponentField, fraction, significand, magnitude, value}
 use Rattle.level.specs.Level.{unit, topFrom, top, given, contribution}
 use Rattle.level.proofs.Double.{significand-lt, significand-normal, size-subnormal}
 use Rattle.integers.proofs.Laws.{natAbs-neg}
@@ -40,7 +40,7 @@ topFrom-least (suc k) j n h = go (ltb n (2 ^ 39 * unit j)) refl (topFrom-least k
             ]
 
 size-lt : (b : ℕ) → magnitude b < 2 ^ 39 * unit 52
-size-lt b = lt-of-lt-of-le (shl-lt 53 (field b - 1) (significand-lt b)) (le-trans (pow-mono {j = 2099} (omega arith)) (lit≤ tt))
+size-lt b = lt-of-lt-of-le (shl-lt 53 (exponentField b - 1) (significand-lt b)) (le-trans (pow-mono {j = 2099} (omega arith)) (lit≤ tt))
 
 pub top-least : (b : ℕ) → Least 0 (magnitude b) (top b)
 unfolding top
@@ -89,39 +89,39 @@ contribution-neg b c j e =
 units-pow : (j : ℕ) → 2 ^ 39 * unit j ≡ 2 ^ (39 + 40 * j)
 units-pow j = sym (pow-add 2 39 (40 * j))
 
-pub top-normal : (b : ℕ) → (field b ≡ 0 → ⊥) → top b ≡ (field b + 52) / 40
+pub top-normal : (b : ℕ) → (exponentField b ≡ 0 → ⊥) → top b ≡ (exponentField b + 52) / 40
 top-normal b n = least-unique (magnitude b) (top b) t (top-least b) (record { under = under; earlier = earlier })
   where
     t : ℕ
-    t = (field b + 52) / 40
+    t = (exponentField b + 52) / 40
 
     under : magnitude b < 2 ^ 39 * unit t
-    under = rw units-pow (lt-of-lt-of-le (shl-lt 53 (field b - 1) (significand-lt b)) (pow-mono (omega arith)))
+    under = rw units-pow (lt-of-lt-of-le (shl-lt 53 (exponentField b - 1) (significand-lt b)) (pow-mono (omega arith)))
 
     earlier : (i : ℕ) → 0 ≤ i → i < t → 2 ^ 39 * unit i ≤ magnitude b
     earlier i _ l =
         let h : 2 ^ 52 ≤ significand b = rw (significand-normal b n) (omega arith) in
         rw units-pow
-        (le-trans (pow-mono {j = 52 + (field b - 1)} (omega arith)) (le-trans (le-of-eq (pow-add 2 52 (field b - 1))) (mul-le-mul-right (2 ^ (field b - 1)) h)))
+        (le-trans (pow-mono {j = 52 + (exponentField b - 1)} (omega arith)) (le-trans (le-of-eq (pow-add 2 52 (exponentField b - 1))) (mul-le-mul-right (2 ^ (exponentField b - 1)) h)))
 
-pub top-small : (b : ℕ) → field b ≡ 0 → fraction b < 2 ^ 39 → top b ≡ 0
+pub top-small : (b : ℕ) → exponentField b ≡ 0 → fraction b < 2 ^ 39 → top b ≡ 0
 top-small b e h =
     least-unique (magnitude b) (top b) 0 (top-least b) (record { under = rw (size-subnormal b e) h; earlier = λ i _ l. absurd (omega arith) })
 
-pub top-subnormal : (b : ℕ) → field b ≡ 0 → 2 ^ 39 ≤ fraction b → top b ≡ 1
+pub top-subnormal : (b : ℕ) → exponentField b ≡ 0 → 2 ^ 39 ≤ fraction b → top b ≡ 1
 top-subnormal b e h =
     least-unique (magnitude b) (top b) 1 (top-least b) (record { under = rw (size-subnormal b e) (omega arith); earlier = λ i _ l. rw (size-subnormal b e, lt-one l) h })
 
 -- the unit of the top is 2^0 to 2^53 units of the significand's last digit
-pub top-place : (b : ℕ) → (field b - 1 ≤ 40 * top b) × (40 * top b ≤ 53 + (field b - 1))
-top-place b = elim (eq-zero-or-pos (field b)) [ inl e ↦ subnormal e | inr h ↦ normal h ]
+pub top-place : (b : ℕ) → (exponentField b - 1 ≤ 40 * top b) × (40 * top b ≤ 53 + (exponentField b - 1))
+top-place b = elim (eq-zero-or-pos (exponentField b)) [ inl e ↦ subnormal e | inr h ↦ normal h ]
   where
-    subnormal : field b ≡ 0 → (field b - 1 ≤ 40 * top b) × (40 * top b ≤ 53 + (field b - 1))
+    subnormal : exponentField b ≡ 0 → (exponentField b - 1 ≤ 40 * top b) × (40 * top b ≤ 53 + (exponentField b - 1))
     subnormal e =
         elim (decLt 1 (top b)) [
           | yes l ↦ absurd (let h = rw (size-subnormal b e) at (top-least b .earlier 1 zero-le l) in omega arith)
           | no k ↦ omega arith
         ]
 
-    normal : 0 < field b → (field b - 1 ≤ 40 * top b) × (40 * top b ≤ 53 + (field b - 1))
+    normal : 0 < exponentField b → (exponentField b - 1 ≤ 40 * top b) × (40 * top b ≤ 53 + (exponentField b - 1))
     normal h = let e = top-normal b (ne-of-gt h) in omega arith

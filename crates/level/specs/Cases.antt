@@ -8,11 +8,13 @@ use Rattle.level.specs.Level.{top, contribution}
 use Rattle.level.specs.Contributions.{contributionsOf}
 use Rattle.level.specs.declared.Contributions.{Contributions}
 
+-- the rows, by their bits
 rows : List ℕ
 rows =
     0 ∷ 0x8000000000000000 ∷ 0x4064000000000000 ∷ 0xC064000000000000 ∷ 0x3DC0000000000001 ∷ 0x3FB999999999999A ∷ 0x403FFFFFFFFFFFFF
     ∷ 0x7FEFFFFFFFFFFFFF ∷ 0x7FF0000000000000 ∷ []
 
+-- a row's top and its three contributions
 abbrev part : ℕ → ℤ → ℤ → ℤ → Contributions
 part t h m l = record { top = t; high = h; middle = m; low = l }
 

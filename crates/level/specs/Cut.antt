@@ -2,13 +2,13 @@
 use Prim.Native.Nat.{ℕ, _+_, _-_, _*_}
 use mathlib.Core.Bool.{Bool, true, false, not}
 use lib.Dec.{ltb}
-use Rattle.level.specs.Double.{field}
+use Rattle.level.specs.Double.{exponentField}
 use Rattle.level.specs.Level.{top}
 use lib.Ieee.Nearest.{closest}
 
 -- how many binary digits of a row's significand stand below its top's unit
 abbrev pub shiftOf : ℕ → ℕ
-shiftOf b = 40 * top b - (field b - 1)
+shiftOf b = 40 * top b - (exponentField b - 1)
 
 -- how far apart two sizes are
 abbrev pub apart : ℕ → ℕ → ℕ

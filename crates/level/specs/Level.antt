@@ -44,11 +44,11 @@ unfoldable pub contribution : ℕ → ℕ → ℤ
 unfolding top given
 contribution b j = given (suc (top b)) (value b) j
 
--- a column of whole numbers, one a level, k levels below level t; below level 0 there is 0
+-- the whole number that a family of them, one a level, has k levels below level t; below level 0 there is 0
 abbrev pub below : (ℕ → ℤ) → ℕ → ℕ → ℤ
 below g t k = cond (leb k t) (g (t - k)) (pos 0)
 
--- the value of n levels of such a column, t and those below it
+-- the value of n levels of such a family, t and those below it
 unfoldable pub levelSum : (ℕ → ℤ) → ℕ → ℕ → ℤ
 levelSum g t zero = pos 0
 levelSum g t (suc n) = levelSum g t n +ℤ below g t n *ℤ pos (unit (t - n))

@@ -3,7 +3,7 @@ ghost use mathlib.Core.Path.{_≡_};
 ghost use Prim.Native.Nat.{_+_, _-_, _*_, _%_, _^_, _<_, _≤_};
 ghost use lib.IntN.{natAbs, _+ℤ_};
 ghost use lib.Ieee.Nearest.{closest};
-ghost use Rattle.level.specs.Double.{field, fraction, finiteBits, significand, negative, signed};
+ghost use Rattle.level.specs.Double.{exponentField, fraction, finiteBits, significand, negative, signed};
 ghost use Rattle.level.specs.Level.{top};
 ghost use Rattle.level.specs.Cut.{shiftOf, restOf, roundedUp, flippedIf};
 ghost use Rattle.level.specs.Carry.{carryOf, residueOf, splitOf, totalOf};
@@ -11,7 +11,7 @@ ghost use Rattle.level.specs.Contributions.{contributionsOf};
 
 // The exponent field of a double's bits.
 pub fn exponent_field(bits: u64) -> u64
-    ensures { λ r. ⌜ r ≡ field bits ⌝ }
+    ensures { λ r. ⌜ r ≡ exponentField bits ⌝ }
 {
     (bits >> 52) & 0x7FF
 }
@@ -24,7 +24,7 @@ pub fn fraction_field(bits: u64) -> u64
 }
 
 // The significand, with the hidden digit of a normal double.
-pub fn digits(bits: u64) -> u64
+pub fn significand(bits: u64) -> u64
     ensures { λ r. ⌜ r ≡ significand bits ⌝ }
 {
     if exponent_field(bits) == 0 {
@@ -64,7 +64,7 @@ fn top_level(bits: u64) -> u64
 
 // The power of two that the significand's last digit counts.
 fn scale(bits: u64) -> u64
-    ensures { λ r. ⌜ r ≡ field bits - 1 ⌝ }
+    ensures { λ r. ⌜ r ≡ exponentField bits - 1 ⌝ }
 {
     let e = exponent_field(bits);
     if e == 0 { 0 } else { e - 1 }
@@ -197,7 +197,7 @@ pub fn contributions_of(bits: u64) -> Contributions
     let t = top_level(bits);
     let d = shift(bits, t);
     let sign = is_negative(bits);
-    let first = cut_at(digits(bits), d);
+    let first = cut_at(significand(bits), d);
     let next = lower_two(first.rest, d);
     let sign1 = flipped_if(sign, first.rounded_up);
     let sign2 = flipped_if(sign1, next.rounded_up);

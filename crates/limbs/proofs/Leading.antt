@@ -11,7 +11,7 @@ use lib.Pow.{pow-add, shr-lt}
 use Rattle.limbs.specs.Limbs.{valueOf, Normal}
 use Rattle.limbs.specs.Nearest.{isOdd, rounded}
 use Rattle.limbs.specs.Packed.{leadingDigits}
-use Rattle.limbs.proofs.Columns.{three-lt}
+use Rattle.limbs.proofs.Addition.{three-lt}
 use Rattle.limbs.proofs.Nearest.{order-same, nearest-at, nearest-le}
 
 -- the 53 leading digits

@@ -42,9 +42,9 @@ abbrev pub withoutBias : List ℕ → List ℕ
 withoutBias r = getD r 0 0 ∷ getD r 1 0 ∷ getD r 2 0 ∷ (getD r 3 0 - 2 ^ 40) ∷ []
 
 -- v is how far p and q are apart, and s says that q is the larger
-abbrev pub Distance : Bool → ℕ → ℕ → ℕ → Type 0
-Distance false v p q = v + q ≡ p
-Distance true v p q = (v + p ≡ q) × (0 < v)
+abbrev pub SignedDifference : Bool → ℕ → ℕ → ℕ → Type 0
+SignedDifference false v p q = v + q ≡ p
+SignedDifference true v p q = (v + p ≡ q) × (0 < v)
 
 -- ---- a shift
 

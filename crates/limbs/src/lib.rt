@@ -4,7 +4,7 @@ ghost use mathlib.Core.Bool.{cond};
 ghost use Prim.Native.Nat.{_+_, _-_, _*_, _/_, _%_, _^_, _<_, _≤_, compare};
 ghost use lib.Dec.{eqb};
 ghost use lib.ListN.{getD};
-ghost use Rattle.limbs.specs.Limbs.{valueOf, Normal, Carried, DifferenceWithBias, withoutBias, Distance, ShiftedLeft};
+ghost use Rattle.limbs.specs.Limbs.{valueOf, Normal, Carried, DifferenceWithBias, withoutBias, SignedDifference, ShiftedLeft};
 ghost use Rattle.limbs.specs.Nearest.{rounded};
 ghost use Rattle.limbs.specs.Packed.{leadingDigits, packed, unitsOf};
 
@@ -64,25 +64,25 @@ fn without_bias(a: [u64; 4]) -> [u64; 4]
 }
 
 // How far two numbers are apart, and whether the second is the larger.
-pub struct SignedDistance {
+pub struct SignMagnitude {
     pub limbs: [u64; 4],
     pub negative: bool,
 }
 
-pub fn distance(p: [u64; 4], q: [u64; 4]) -> SignedDistance
+pub fn abs_diff(p: [u64; 4], q: [u64; 4]) -> SignMagnitude
     requires { ⌜ Normal p ⌝ }
     requires { ⌜ Normal q ⌝ }
     ensures { λ r. ⌜ Normal (r .limbs) ⌝ }
-    ensures { λ r. ⌜ Distance (r .negative) (valueOf (r .limbs)) (valueOf p) (valueOf q) ⌝ }
+    ensures { λ r. ⌜ SignedDifference (r .negative) (valueOf (r .limbs)) (valueOf p) (valueOf q) ⌝ }
 {
     let up = difference_with_bias(p, q);
     if up[3] >= LIMB {
-        return SignedDistance {
+        return SignMagnitude {
             limbs: without_bias(up),
             negative: false,
         };
     }
-    SignedDistance {
+    SignMagnitude {
         limbs: without_bias(difference_with_bias(q, p)),
         negative: true,
     }
@@ -195,11 +195,11 @@ fn leading_digits(a: [u64; 4]) -> u64
 }
 
 // The bits with this field below these digits; a hidden digit among them adds one to the field.
-fn assemble(field: u64, digits: u64) -> u64
-    requires { ⌜ (field < 2 ^ 12) × (field * 2 ^ 52 + digits < 2 ^ 64) ⌝ }
-    ensures { λ r. ⌜ r ≡ field * 2 ^ 52 + digits ⌝ }
+fn assemble(exponent: u64, digits: u64) -> u64
+    requires { ⌜ (exponent < 2 ^ 12) × (exponent * 2 ^ 52 + digits < 2 ^ 64) ⌝ }
+    ensures { λ r. ⌜ r ≡ exponent * 2 ^ 52 + digits ⌝ }
 {
-    (field << 52) + digits
+    (exponent << 52) + digits
 }
 
 // The bits, without the sign, of the double nearest to a × 2^e / 2^80 units of 2^-1074.

@@ -3,7 +3,7 @@ use mathlib.Core.Path.{_≡_, refl, ap}
 use mathlib.Core.Bool.{Bool, false, _||_}
 use mathlib.Core.List.{List, [], _∷_, _++_, map}
 use Rattle.lists.specs.Lists.{anyOf}
-use Rattle.lists.proofs.Booleans.{or-false}
+use Rattle.lists.proofs.Booleans.{both-false}
 
 abbrev pub All : {A : Type 0} → (A → Type 0) → List A → Type 0
 All P [] = Unit {0}
@@ -26,7 +26,7 @@ module _ {A : Type 0} (P : A → Type 0) where
 pub any-false : {A : Type 0} (p : A → Bool) (xs : List A) → anyOf p xs ≡ false → All (λ (x : A). p x ≡ false) xs
 unfolding anyOf
 any-false p [] e = tt
-any-false p (x ∷ xs) e = let w = or-false (p x) (anyOf p xs) e in (w .0, any-false p xs (w .1))
+any-false p (x ∷ xs) e = let w = both-false (p x) (anyOf p xs) e in (w .0, any-false p xs (w .1))
 
 pub any-map : {A B : Type 0} (p : B → Bool) (f : A → B) (xs : List A) → anyOf p (map f xs) ≡ anyOf (λ (x : A). p (f x)) xs
 unfolding anyOf

@@ -20,7 +20,7 @@ use Rattle.record.specs.Keys.{keys, rising}
 use Rattle.record.specs.Sound.{soundRecord, soundRecords, sound}
 use Rattle.record.specs.Section.{Section, meaning, recordOf, sections, sectionBytes, written}
 use Rattle.record.proofs.Laws.{length-encode, decode-part}
-use Rattle.record.proofs.Sound.{sound-parts, sound-made}
+use Rattle.record.proofs.Sound.{sound-parts, sound-if}
 use Rattle.record.proofs.Found.{sound-record-at}
 use Rattle.table.specs.Calls.{mostRows, overflows}
 use Rattle.lists.specs.Lists.{anyOf}
@@ -75,7 +75,7 @@ sound-prior s i h =
     let r = rising-end (keys (records s i)) (keyAt s i) (rw (e, map-append) at (p .2)) in
     record {
       fits = fits;
-      front = sound-made s i (omega arith) (omega (arith, p .1)) (r .0) (sound-front (records s i) (recordAt s (i * 64)) (rw e at (p .3)));
+      front = sound-if s i (omega arith) (omega (arith, p .1)) (r .0) (sound-front (records s i) (recordAt s (i * 64)) (rw e at (p .3)));
       below = keys-below (keyAt s i) (records s i) (r .1);
     }
 

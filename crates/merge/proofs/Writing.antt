@@ -12,7 +12,7 @@ use Rattle.record.specs.declared.Record.{Record}
 use Rattle.record.specs.Layout.{encode}
 use Rattle.record.specs.Sound.{sound}
 use Rattle.record.specs.Section.{Section, sections, recordOf, written}
-use Rattle.lists.proofs.Booleans.{or-false}
+use Rattle.lists.proofs.Booleans.{both-false}
 use Rattle.table.specs.Combine.{merged}
 use Rattle.table.specs.Calls.{overflows, mergeSections}
 use Rattle.lists.specs.Lists.{anyOf}
@@ -45,7 +45,7 @@ module _ {s₀ : List ℕ} {g : ℕ} {s′ : List ℕ} {g′ : ℕ} {s : List �
     room = t .groups ∙ length-back b
 
     pub few-last : overflows (lastSection s i s′ j e) ≡ false
-    few-last = or-false (anyOf overflows (mergeSections s (e .i) s′ (e .j))) (overflows (lastSection s i s′ j e)) (sym (any-back b) ∙ t .few) .1
+    few-last = both-false (anyOf overflows (mergeSections s (e .i) s′ (e .j))) (overflows (lastSection s i s′ j e)) (sym (any-back b) ∙ t .few) .1
 
     -- one section more
     module _ {r : Record} {s₁ : List ℕ} (p : r ≡ recordOf (lastSection s i s′ j e)) (q : s₁ ≡ sets s ((k - 1) * 64) (encode r)) where
@@ -76,7 +76,7 @@ module _ {s₀ : List ℕ} {g : ℕ} {s′ : List ℕ} {g′ : ℕ} {s : List �
         sound₂ = b .sound₂;
         groups = n ∙ ap length (sym still);
         fits = omega (arith, long₁, t .fits);
-        few = ap (anyOf overflows) still ∙ or-false (anyOf overflows (mergeSections s (e .i) s′ (e .j))) (overflows (lastSection s i s′ j e)) (sym (any-back b) ∙ t .few) .0;
+        few = ap (anyOf overflows) still ∙ both-false (anyOf overflows (mergeSections s (e .i) s′ (e .j))) (overflows (lastSection s i s′ j e)) (sym (any-back b) ∙ t .few) .0;
         rest =
             ap₂ written still put
             ∙ written-more (mergeSections s (e .i) s′ (e .j)) (lastSection s i s′ j e) s (omega (arith, room, t .fits))

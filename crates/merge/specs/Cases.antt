@@ -1,4 +1,4 @@
--- Document 01's small examples of a merge, computed from the definitions.
+-- Small examples of a merge, computed from the definitions.
 use Prim.Native.Nat.{ℕ}
 use mathlib.Core.Path.{_≡_, refl}
 use mathlib.Core.List.{List, [], _++_}
@@ -15,6 +15,7 @@ use Rattle.table.specs.Combine.{levelOf, combine, absorb, merged}
 use Rattle.table.specs.Calls.{mergeGrounds, mergeOutcome, mergeLeaves}
 use Rattle.lists.specs.Lists.{anyOf}
 
+-- the total 0
 abbrev nothing : SplitTotal
 nothing = record { residue = 0; carry = pos 0 }
 

@@ -1,4 +1,4 @@
--- What the steps of a merge promise each other: two tables of i and j records are walked from their ends.
+-- What the steps of a merge promise each other: of two tables the first i and the first j records are left, and the last ones are placed first.
 use Prim.Native.Nat.{ℕ, _+_, _*_, _≤_, _<_}
 use mathlib.Core.Path.{_≡_}
 use mathlib.Core.Bool.{cond}

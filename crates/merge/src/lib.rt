@@ -140,10 +140,10 @@ fn write_back(first: &mut [u8], g1: usize, second: &[u8], g2: usize, groups: usi
 fn decide(first: &[u8], g1: usize, second: &[u8], g2: usize) -> TableAnswer
     ensures { λ r. ⌜ tableAnswer r ≡ mergeOutcome (now (first .entry)) g1 (now (second .entry)) g2 ⌝ }
 {
-    if !record::is_sound(first, g1) {
+    if !soundness::is_sound(first, g1) {
         return TableAnswer::Refused(Refusal::TableNotSound);
     }
-    if !record::is_sound(second, g2) {
+    if !soundness::is_sound(second, g2) {
         return TableAnswer::Refused(Refusal::TableNotSound);
     }
     let u = united(first, g1, second, g2);

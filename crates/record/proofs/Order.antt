@@ -11,7 +11,7 @@ use lib.Ieee.Fits.{and-l, and-r, and-i}
 use lib.Arith.{lt-of-le-ne}
 use borrow.Author.Tests.{lt-ltb, le-ltb, eq-eqb, ne-eqb, ltb-true, ltb-false, eqb-false, eqb-true}
 use lib.ListN.{length, getD, take, drop}
-use Rattle.lists.proofs.Booleans.{or-false}
+use Rattle.lists.proofs.Booleans.{both-false}
 use Rattle.record.specs.Keys.{rising, countBelow, has, place}
 use Rattle.record.specs.declared.Place.the-variants.{At, Gap}
 
@@ -116,7 +116,7 @@ first-above x k (suc i) (y ∷ ys) h m = m (omega arith)
 pub rising-insert : (k : ℕ) (ks : List ℕ) → T (rising ks) → has k ks ≡ false → T (rising (take (countBelow k ks) ks ++ k ∷ drop (countBelow k ks) ks))
 unfolding has countBelow rising
 rising-insert k [] r n = tt
-rising-insert k (x ∷ xs) r n = by (ltb x k) refl (rising-insert k xs (tail x xs r) (or-false (eqb x k) (has k xs) n .1))
+rising-insert k (x ∷ xs) r n = by (ltb x k) refl (rising-insert k xs (tail x xs r) (both-false (eqb x k) (has k xs) n .1))
   where
     by : (b : Bool) → ltb x k ≡ b
         → T (rising (take (countBelow k xs) xs ++ k ∷ drop (countBelow k xs) xs))
@@ -127,7 +127,7 @@ rising-insert k (x ∷ xs) r n = by (ltb x k) refl (rising-insert k xs (tail x x
         ih
     by false e ih =
         let h : k ≤ x = ltb-false x k e in
-        rw (below-none k xs (λ j m. omega (arith, head-lt x xs r j m))) (cons k (x ∷ xs) (λ l. lt-of-le-ne h (λ q. eqb-false x k (or-false (eqb x k) (has k xs) n .0) (sym q))) r)
+        rw (below-none k xs (λ j m. omega (arith, head-lt x xs r j m))) (cons k (x ∷ xs) (λ l. lt-of-le-ne h (λ q. eqb-false x k (both-false (eqb x k) (has k xs) n .0) (sym q))) r)
 
 -- the keys of records of which one is new
 pub map-insert : {A B : Type 0} (f : A → B) (i : ℕ) (a : A) (l : List A) → map f (take i l ++ a ∷ drop i l) ≡ take i (map f l) ++ f a ∷ drop i (map f l)

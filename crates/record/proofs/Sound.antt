@@ -1,81 +1,15 @@
 -- Laws of soundness.
-use Prim.Native.Nat.{ℕ, zero, suc, _+_, _-_, _*_, _^_, _<_, _≤_}
-use mathlib.Core.Path.{_≡_, refl, sym, _∙_}
-use mathlib.Core.Bool.{Bool, true, false, _&&_}
+use Prim.Native.Nat.{ℕ, zero, suc, _*_, _<_, _≤_}
+use mathlib.Core.Bool.{_&&_}
 use mathlib.Core.List.{List, [], _∷_}
 use native.Mathlib.Omega.{arith}
-use borrow.Author.Tests.{lt-ltb, le-ltb, le-leb, leb-true, ne-eqb}
-use lib.Dec.{T, ltb, leb, eqb, leb→le, le→leb}
+use lib.Dec.{T, leb, leb→le, le→leb}
 use lib.Ieee.Fits.{and-l, and-r, and-i}
-use lib.IntN.{ℤ, pos, negsuc, negℤ, natAbs, _+ℤ_, _*ℤ_}
-use lib.Signed.{ltZ}
-use lib.ListN.{length, getD, drop, length-drop}
-use lib.Seq.{drop-cons}
-use mir.Syntax.{w64}
-use mir.Val.{toZ, ofZ, SFits}
-use Rattle.codec.proofs.Laws.{sign-known, turned, low-half}
+use lib.ListN.{length, getD}
 use Rattle.record.specs.declared.Record.{Record}
 use Rattle.record.specs.Keys.{keys, rising}
 use Rattle.record.specs.Layout.{records, capacity}
 use Rattle.record.specs.Sound.{soundRecord, soundRecords, sound}
-
--- two tests that hold together are one
-pub leb-same : (a b c d : ℕ) → (a ≤ b → c ≤ d) → (c ≤ d → a ≤ b) → leb a b ≡ leb c d
-leb-same a b c d f g = by (leb a b) refl
-  where
-    by : (t : Bool) → leb a b ≡ t → t ≡ leb c d
-    by true e = sym (le-leb c d (f (leb-true a b e)))
-    by false e = by′ (leb c d) refl
-      where
-        by′ : (u : Bool) → leb c d ≡ u → false ≡ u
-        by′ true q = sym e ∙ le-leb a b (g (leb-true c d q))
-        by′ false q = refl
-
--- the size of a negative total
-size-below : (n s : ℕ) → s < n → natAbs (negℤ (pos n) +ℤ pos s) ≡ n - s
-size-below zero s h = absurd (omega arith)
-size-below (suc n) s h = rw (lt-ltb s (suc n) h) (omega arith)
-
-pub size-negative : (z : ℤ) (s : ℕ) → SFits w64 z → s < 2 ^ 50 → ltZ (toZ w64 (ofZ w64 z)) (pos 0) ≡ true
-    → natAbs (z *ℤ pos (2 ^ 50) +ℤ pos s) ≡ natAbs (toZ w64 (2 ^ 64 - 1 - ofZ w64 z)) * 2 ^ 50 + (2 ^ 50 - s)
-size-negative (pos n) s f h e = absurd (omega (arith, sign-known (pos n) f true e))
-size-negative (negsuc k) s f h e =
-    omega (arith, size-below (suc k * 2 ^ 50) s (omega arith), turned (negsuc k) f e .1)
-
-pub size-positive : (z : ℤ) (s : ℕ) → SFits w64 z → ltZ (toZ w64 (ofZ w64 z)) (pos 0) ≡ false
-    → natAbs (z *ℤ pos (2 ^ 50) +ℤ pos s) ≡ natAbs (toZ w64 (ofZ w64 z)) * 2 ^ 50 + s
-size-positive (pos n) s f e = omega (arith, low-half n (f .sfits) .1)
-size-positive (negsuc k) s f e = absurd (omega (arith, sign-known (negsuc k) f false e))
-
-pub zero-bits : (z : ℤ) → SFits w64 z → eqb (ofZ w64 z) 0 ≡ eqb (natAbs z) 0
-zero-bits (pos n) f = refl
-zero-bits (negsuc n) f = ne-eqb (2 ^ 64 - suc n) 0 (λ e. omega arith) ∙ sym (ne-eqb (suc n) 0 (λ e. omega arith))
-
--- ---- going through the keys, and through the records, from the front
-
-rising-short : (l : List ℕ) → length l ≤ 1 → rising l ≡ true
-unfolding rising
-rising-short [] h = refl
-rising-short (x ∷ []) h = refl
-rising-short (x ∷ y ∷ ys) h = absurd (omega arith)
-
-module _ (ks : List ℕ) (j : ℕ) where
-  two : suc j < length ks → rising (drop j ks) ≡ (ltb (getD ks j 0) (getD ks (suc j) 0) && rising (drop (suc j) ks))
-  unfolding rising
-  two h = rw (drop-cons ks j 0 (omega arith), drop-cons ks (suc j) 0 h)
-
-  pub rising-more : suc j < length ks → getD ks j 0 < getD ks (suc j) 0 → rising (drop j ks) ≡ rising (drop (suc j) ks)
-  rising-more h l = two h ∙ rw (lt-ltb (getD ks j 0) (getD ks (suc j) 0) l)
-
-  pub rising-stop : suc j < length ks → getD ks (suc j) 0 ≤ getD ks j 0 → rising (drop j ks) ≡ false
-  rising-stop h l = two h ∙ rw (le-ltb (getD ks j 0) (getD ks (suc j) 0) l)
-
-  pub rising-end : length ks ≤ suc j → rising (drop j ks) ≡ true
-  rising-end h = rising-short (drop j ks) (rw length-drop (omega arith))
-
-pub sound-cons : (rs : List Record) (i : ℕ) (d : Record) → i < length rs → soundRecords (drop i rs) ≡ (soundRecord (getD rs i d) && soundRecords (drop (suc i) rs))
-unfolding soundRecords
-sound-cons rs i d h = rw (drop-cons rs i d h)
 
 -- ---- a sound table, part by part
 
@@ -88,9 +22,9 @@ sound-parts s g t =
     let h = leb→le g (capacity (length s)) (and-l a (c && d) t) in
     (omega arith, omega arith, and-l c d (and-r a (c && d) t), and-r c d (and-r a (c && d) t))
 
-pub sound-made : (s : List ℕ) (g : ℕ) → g * 64 ≤ length s → g ≤ 1024 → T (rising (keys (records s g))) → T (soundRecords (records s g)) → T (sound s g)
+pub sound-if : (s : List ℕ) (g : ℕ) → g * 64 ≤ length s → g ≤ 1024 → T (rising (keys (records s g))) → T (soundRecords (records s g)) → T (sound s g)
 unfolding sound
-sound-made s g h k r t =
+sound-if s g h k r t =
     and-i (leb g (capacity (length s))) (rising (keys (records s g)) && soundRecords (records s g))
     (le→leb g (capacity (length s)) (omega arith))
     (and-i (rising (keys (records s g))) (soundRecords (records s g)) r t)

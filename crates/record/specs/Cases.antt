@@ -15,10 +15,11 @@ use Rattle.record.specs.Keys.{keys, rising, countBelow, has, place}
 use Rattle.level.specs.Carry.{totalOf}
 use Rattle.record.specs.Sound.{soundTotal, isZero, soundRecord, soundRecords, sound}
 
--- B2, row -1 : first residue 1125882726973440, carry -1, top 26
+-- the total 0
 abbrev nothing : SplitTotal
 nothing = record { residue = 0; carry = pos 0 }
 
+-- B2, the row -1: first residue 1125882726973440, carry -1, top 26
 abbrev b2 : Record
 b2 = record { key = 7; count = 1; top = 26; zero = 0; high = record { residue = 1125882726973440; carry = negsuc 0 }; middle = nothing; low = nothing }
 
@@ -33,7 +34,7 @@ b2-sound : soundRecord b2 ≡ true
 unfolding soundRecord soundTotal isZero
 b2-sound = refl
 
--- two tables of one record and of two
+-- a table of one record, with bytes after it that do not count
 abbrev one : List ℕ
 one = encode b2 ++ replicate 70 255
 

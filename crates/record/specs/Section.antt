@@ -61,7 +61,7 @@ unfoldable pub find : ℕ → List Section → Option Section
 find k [] = none
 find k (t ∷ ts) = cond (eqb k (t .key)) (some t) (find k ts)
 
--- the section with the three levels that the column f of totals has at top t; a level below 0 holds 0
+-- the section with the three levels that the family f of totals has at top t; a level below 0 holds 0
 abbrev pub sectionAt : ℕ → ℕ → ℕ → (ℕ → ℤ) → Section
 sectionAt k n t f = record { key = k; count = n; top = t; high = below f t 0; middle = below f t 1; low = below f t 2 }
 

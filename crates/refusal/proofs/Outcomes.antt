@@ -6,7 +6,7 @@ use mathlib.Core.List.{List, [], _∷_, _++_}
 use native.Mathlib.Omega.{arith}
 use borrow.Author.Tests.{ltb-true}
 use lib.Dec.{eqb, ltb}
-use Rattle.lists.proofs.Booleans.{and-true, or-false}
+use Rattle.lists.proofs.Booleans.{both-true, both-false}
 use Rattle.refusal.specs.Outcome.{accepted, refused, Ground, outcome, condition, isRefusal, isGround}
 
 pub accepted≢refused : {A : Type 0} {x : A} {n : ℕ} → refused n ≡ accepted x → ⊥
@@ -16,14 +16,14 @@ accepted≢refused e = let z : _≡_ {A = ℕ} 0 1 = cc in omega arith
 first : {A : Type 0} (c : Ground) (cs : List Ground) (x : A) {y : A} → outcome (c ∷ cs) x ≡ accepted y → (c .holds ≡ false) × (outcome cs x ≡ accepted y)
 first c cs x {y} e = go (c .holds) refl e
   where
-    go : (b : Bool) → c .holds ≡ b → cond b (refused (c .number)) (outcome cs x) ≡ accepted y → (c .holds ≡ false) × (outcome cs x ≡ accepted y)
+    go : (b : Bool) → c .holds ≡ b → cond b (refused (c .refusal)) (outcome cs x) ≡ accepted y → (c .holds ≡ false) × (outcome cs x ≡ accepted y)
     go true h q = absurd (accepted≢refused q)
     go false h q = (h, q)
 
 -- of an accepted call no ground holds
 pub accepted-not : {A : Type 0} (n : ℕ) (gs : List Ground) (x : A) {y : A} → outcome gs x ≡ accepted y → condition n gs ≡ false
 accepted-not n [] x e = refl
-accepted-not n (c ∷ cs) x e = let f = first c cs x e in by (eqb n (c .number)) (f .0) (accepted-not n cs x (f .1))
+accepted-not n (c ∷ cs) x e = let f = first c cs x e in by (eqb n (c .refusal)) (f .0) (accepted-not n cs x (f .1))
   where
     by : (b : Bool) → c .holds ≡ false → condition n cs ≡ false → cond b (c .holds) (condition n cs) ≡ false
     by true h r = h
@@ -39,15 +39,15 @@ accepted-value (c ∷ cs) x e = accepted-value cs x (first c cs x e .1)
 -- every ground's number is below m
 abbrev pub numbersBelow : ℕ → List Ground → Bool
 numbersBelow m [] = true
-numbersBelow m (c ∷ cs) = ltb (c .number) m && numbersBelow m cs
+numbersBelow m (c ∷ cs) = ltb (c .refusal) m && numbersBelow m cs
 
 -- a refusal's number is that of one of the grounds
 pub refused-below : {A : Type 0} (m : ℕ) (gs : List Ground) (x : A) {n : ℕ} → numbersBelow m gs ≡ true → outcome gs x ≡ refused n → n < m
 refused-below m [] x b e = absurd (accepted≢refused (sym e))
-refused-below m (c ∷ cs) x {n} b e = let p = and-true (ltb (c .number) m) (numbersBelow m cs) b in go (c .holds) (ltb-true (c .number) m (p .0)) (refused-below m cs x (p .1)) e
+refused-below m (c ∷ cs) x {n} b e = let p = both-true (ltb (c .refusal) m) (numbersBelow m cs) b in go (c .holds) (ltb-true (c .refusal) m (p .0)) (refused-below m cs x (p .1)) e
   where
-    go : (h : Bool) → c .number < m → (outcome cs x ≡ refused n → n < m) → cond h (refused (c .number)) (outcome cs x) ≡ refused n → n < m
-    go true l ih q = let z : c .number ≡ n = cc in rw (← z) l
+    go : (h : Bool) → c .refusal < m → (outcome cs x ≡ refused n → n < m) → cond h (refused (c .refusal)) (outcome cs x) ≡ refused n → n < m
+    go true l ih q = let z : c .refusal ≡ n = cc in rw (← z) l
     go false l ih q = ih q
 
 -- ---- further grounds
@@ -57,8 +57,8 @@ pub refused-first : {A B : Type 0} (gs hs : List Ground) (x : A) (y : B) {n : �
 refused-first [] hs x y e = absurd (accepted≢refused (sym e))
 refused-first (c ∷ cs) hs x y {n} e = go (c .holds) e (refused-first cs hs x y)
   where
-    go : (b : Bool) → cond b (refused (c .number)) (outcome cs x) ≡ refused n → (outcome cs x ≡ refused n → outcome (cs ++ hs) y ≡ refused n)
-        → cond b (refused (c .number)) (outcome (cs ++ hs) y) ≡ refused n
+    go : (b : Bool) → cond b (refused (c .refusal)) (outcome cs x) ≡ refused n → (outcome cs x ≡ refused n → outcome (cs ++ hs) y ≡ refused n)
+        → cond b (refused (c .refusal)) (outcome (cs ++ hs) y) ≡ refused n
     go true q ih = ap refused cc
     go false q ih = ih q
 
@@ -67,14 +67,14 @@ pub accepted-first : {A B : Type 0} (gs hs : List Ground) (x : A) (y : B) {z : A
 accepted-first [] hs x y e = refl
 accepted-first (c ∷ cs) hs x y e =
     let f = first c cs x e in
-    ap (λ (b : Bool). cond b (refused (c .number)) (outcome (cs ++ hs) y)) (f .0) ∙ accepted-first cs hs x y (f .1)
+    ap (λ (b : Bool). cond b (refused (c .refusal)) (outcome (cs ++ hs) y)) (f .0) ∙ accepted-first cs hs x y (f .1)
 
 -- a number that no ground has is not given
 pub not-given : {A : Type 0} (n : ℕ) (gs : List Ground) (x : A) → isGround n gs ≡ false → isRefusal n (outcome gs x) ≡ false
 unfolding isRefusal
 not-given n [] x e = refl
-not-given n (c ∷ cs) x e = let f = or-false (eqb n (c .number)) (isGround n cs) e in go (f .0) (not-given n cs x (f .1)) (c .holds)
+not-given n (c ∷ cs) x e = let f = both-false (eqb n (c .refusal)) (isGround n cs) e in go (f .0) (not-given n cs x (f .1)) (c .holds)
   where
-    go : eqb n (c .number) ≡ false → isRefusal n (outcome cs x) ≡ false → (b : Bool) → isRefusal n (cond b (refused (c .number)) (outcome cs x)) ≡ false
+    go : eqb n (c .refusal) ≡ false → isRefusal n (outcome cs x) ≡ false → (b : Bool) → isRefusal n (cond b (refused (c .refusal)) (outcome cs x)) ≡ false
     go h ih true = h
     go h ih false = ih

@@ -11,22 +11,22 @@ pub data Outcome (A : Type 0) : Type 0 where
 
 -- a line of document 01's table: the refusal's number, and whether its condition holds
 pub record Ground : Type 0 where
-  pub number : ℕ
+  pub refusal : ℕ
   pub holds : Bool
 
 -- refusal n, if b holds
 abbrev pub ground : ℕ → Bool → Ground
-ground n b = record { number = n; holds = b }
+ground n b = record { refusal = n; holds = b }
 
 -- the first ground that holds refuses the call; where none does, it is accepted with x
 abbrev pub outcome : {A : Type 0} → List Ground → A → Outcome A
 outcome [] x = accepted x
-outcome (c ∷ cs) x = cond (c .holds) (refused (c .number)) (outcome cs x)
+outcome (c ∷ cs) x = cond (c .holds) (refused (c .refusal)) (outcome cs x)
 
 -- the condition of the ground with number n; a list without that number has none
 abbrev pub condition : ℕ → List Ground → Bool
 condition n [] = false
-condition n (c ∷ cs) = cond (eqb n (c .number)) (c .holds) (condition n cs)
+condition n (c ∷ cs) = cond (eqb n (c .refusal)) (c .holds) (condition n cs)
 
 -- the outcome is refusal n
 unfoldable pub isRefusal : {A : Type 0} → ℕ → Outcome A → Bool
@@ -36,4 +36,4 @@ isRefusal n (refused m) = eqb n m
 -- one of the grounds has number n
 abbrev pub isGround : ℕ → List Ground → Bool
 isGround n [] = false
-isGround n (c ∷ cs) = eqb n (c .number) || isGround n cs
+isGround n (c ∷ cs) = eqb n (c .refusal) || isGround n cs

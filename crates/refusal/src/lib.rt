@@ -22,7 +22,7 @@ pub enum Refusal {
 }
 
 // The number that document 01 gives a refusal.
-pub fn number(r: Refusal) -> u32
+pub fn number_of(r: Refusal) -> u32
     ensures { λ n. ⌜ n ≡ numberOf r ⌝ }
 {
     match r {

@@ -1,4 +1,4 @@
--- A section's line by its finished line, and the sections of a sound table in their places.
+-- A line in the buffer, a section's line by its finished line, and the sections of a sound table in their places.
 use Prim.Native.Nat.{ℕ, suc, _+_, _*_, _<_, _≤_}
 use mathlib.Core.Path.{_≡_, refl, sym, ap, _∙_}
 use mathlib.Core.Bool.{Bool, true, false, cond}
@@ -23,7 +23,19 @@ use Rattle.finish.specs.Figure.{beyond}
 use Rattle.finish.specs.Finish.{sumOf, figureFor, lineOf, lineFor}
 use Rattle.finish.specs.declared.FinishedLine.{FinishedLine}
 use Rattle.finish.proofs.Outcomes.{never, line-given}
-use Rattle.report.specs.Text.{lastFields, lineWith, lineText}
+use Rattle.numerals.specs.Numerals.{decimal}
+use Rattle.numerals.specs.Steps.{Continued}
+use Rattle.numerals.proofs.Texts.{then-ended}
+use Rattle.report.specs.Text.{space, lineFeed, lastFields, lineWith, lineText}
+use Rattle.report.specs.Steps.{startSize}
+
+-- ---- a line in the buffer
+
+-- section and row count, then what follows them with its line feed
+pub line-printed : {s s₁ s₂ : List ℕ} {at k r₁ r₂ : ℕ} (key count : ℕ) (last : List ℕ) → Continued s at (decimal key ++ space ++ decimal count ++ space) startSize s₁ r₁ → Continued s₁ r₁ (last ++ lineFeed) k s₂ r₂
+    → Continued s at (lineWith key count last) (startSize + k) s₂ r₂
+unfolding lineWith
+line-printed key count last start fields = then-ended last lineFeed start fields
 
 -- ---- the line of a section
 

@@ -1,12 +1,12 @@
 -- The report of a file is at most 4,096 bytes long: its head line has 29, and each of at most 64 lines at most 58.
-use Prim.Native.Nat.{ℕ, suc, _-_, _*_, _^_, _<_, _≤_}
+use Prim.Native.Nat.{ℕ, _-_, _*_, _^_, _<_, _≤_}
 use mathlib.Core.Path.{_≡_, refl}
 use mathlib.Core.Bool.{Bool, true, false, cond}
 use mathlib.Core.List.{List, [], _∷_, _++_}
 use mathlib.Core.Option.{some}
 use native.Mathlib.Omega.{arith}
 use borrow.Author.Tests.{ltb-false}
-use lib.IntN.{ℤ, pos, negsuc}
+use lib.IntN.{ℤ, natAbs}
 use lib.Ieee.{binary64, toBits}
 use lib.ListN.{length, drop, length-append}
 use Rattle.codec.specs.Cells.{image}
@@ -19,47 +19,44 @@ use Rattle.patch.specs.File.{rowCount, keyDistance, readGrounds, readOutcome, k
 use Rattle.patch.proofs.File.{key-column}
 use Rattle.record.specs.Section.{Section, kept}
 use Rattle.table.specs.Calls.{columnGrounds, addGrounds, addSections, addOutcome}
-use Rattle.table.proofs.Bytes.{Fits}
+use Rattle.table.proofs.Bytes.{Storable}
 use Rattle.finish.specs.Sum.{nearestDouble, tooLarge}
 use Rattle.finish.specs.Figure.{beyond}
 use Rattle.finish.specs.Finish.{sumOf, figureOf, figureFor}
-use Rattle.report.specs.Numerals.{decimal, integer, hexadecimal}
-use Rattle.report.specs.Text.{space, lineFeed, headLine, refusal, figureField, lastFields, lineWith, lineText, tableSize, emptyTable, addText, columnsText, fileText, reportText}
-use Rattle.report.specs.Steps.{decimalSize, integerSize, refusalSize, longestLine, textSize}
-use Rattle.report.proofs.Digits.{short, length-digits}
+use Rattle.numerals.specs.Numerals.{decimal, integer, hexadecimal}
+use Rattle.numerals.specs.Steps.{integerSize}
+use Rattle.numerals.proofs.Size.{length-decimal, length-integer, length-hexadecimal}
+use Rattle.report.specs.Text.{space, lineFeed, headLine, refusalText, figureField, lastFields, lineWith, lineText, tableSize, emptyTable, addText, columnsText, fileText, reportText}
+use Rattle.report.specs.Steps.{refusalSize, refusedFieldsSize, longestLine, textSize}
 use Rattle.report.proofs.Whole.{columns-left}
 
 -- ---- one line
-length-decimal : (n : ℕ) → n < 2 ^ 32 → length (decimal n) ≤ decimalSize
-length-decimal n h = short 9 n (omega arith)
+length-figure : (z : ℤ) → beyond z ≡ false → length (integer z) ≤ integerSize
+unfolding beyond
+length-figure z e = length-integer z (omega (arith, ltb-false 2147483647 (natAbs z) e))
 
-length-integer : (z : ℤ) → beyond z ≡ false → length (integer z) ≤ integerSize
-unfolding integer beyond
-length-integer (pos n) e = omega (arith, length-decimal n (omega (arith, ltb-false 2147483647 n e)))
-length-integer (negsuc n) e = omega (arith, length-decimal (suc n) (omega (arith, ltb-false 2147483647 (suc n) e)))
-
-length-refusal : (n : ℕ) → n < 2 ^ 32 → length (refusal n) ≤ refusalSize
-unfolding refusal
+length-refusal : (n : ℕ) → n < 2 ^ 32 → length (refusalText n) ≤ refusalSize
+unfolding refusalText
 length-refusal n h = omega (arith, length-decimal n h)
 
-length-last : (s : Section) → length (lastFields (sumOf (some s)) (figureOf (some s))) ≤ 35
+length-last : (s : Section) → length (lastFields (sumOf (some s)) (figureOf (some s))) ≤ refusedFieldsSize
 unfolding lastFields figureField
 length-last s = by (tooLarge (kept s)) (beyond (figureFor s)) refl
   where
     bits : List ℕ
     bits = hexadecimal (toBits binary64 (nearestDouble (kept s)))
 
-    after-bits : (l : List ℕ) → length l ≤ refusalSize → length (bits ++ space ++ l) ≤ 35
+    after-bits : (l : List ℕ) → length l ≤ refusalSize → length (bits ++ space ++ l) ≤ refusedFieldsSize
     after-bits l h =
-        omega (arith, length-append (bits ++ space) l, length-append bits space, length-digits 16 16 (toBits binary64 (nearestDouble (kept s))))
+        omega (arith, length-append (bits ++ space) l, length-append bits space, length-hexadecimal (toBits binary64 (nearestDouble (kept s))))
 
     by : (a b : Bool) → beyond (figureFor s) ≡ b
-        → length (lastFields (cond a (refused 14) (accepted (nearestDouble (kept s)))) (cond a (refused 14) (cond b (refused 15) (accepted (figureFor s))))) ≤ 35
+        → length (lastFields (cond a (refused 14) (accepted (nearestDouble (kept s)))) (cond a (refused 14) (cond b (refused 15) (accepted (figureFor s))))) ≤ refusedFieldsSize
     by true b e = omega (arith, length-refusal 14 (omega arith))
-    by false true e = after-bits (refusal 15) (length-refusal 15 (omega arith))
-    by false false e = after-bits (integer (figureFor s)) (omega (arith, length-integer (figureFor s) e))
+    by false true e = after-bits (refusalText 15) (length-refusal 15 (omega arith))
+    by false false e = after-bits (integer (figureFor s)) (omega (arith, length-figure (figureFor s) e))
 
-length-line : (s : Section) → Fits s → length (lineText s) ≤ longestLine
+length-line : (s : Section) → Storable s → length (lineText s) ≤ longestLine
 unfolding lineText lineWith
 length-line s f =
     let last = lastFields (sumOf (some s)) (figureOf (some s)) in
@@ -77,14 +74,14 @@ length-line s f =
       length-last s,
     )
 
-length-lines : (ts : List Section) → All Fits ts → length (image lineText ts) ≤ longestLine * length ts
+length-lines : (ts : List Section) → All Storable ts → length (image lineText ts) ≤ longestLine * length ts
 unfolding image
 length-lines [] a = omega arith
 length-lines (t ∷ ts) a = omega (arith, length-append (lineText t) (image lineText ts), length-line t (a .0), length-lines ts (a .1))
 
 -- ---- the whole text
-length-refused : (n : ℕ) → n < 100 → length (refusal n ++ lineFeed) ≤ textSize
-length-refused n h = omega (arith, length-append (refusal n) lineFeed, length-refusal n (omega arith))
+length-refused : (n : ℕ) → n < 100 → length (refusalText n ++ lineFeed) ≤ textSize
+length-refused n h = omega (arith, length-append (refusalText n) lineFeed, length-refusal n (omega arith))
 
 add-number : (ks vs : List ℕ) {n : ℕ} → addOutcome Double emptyTable 0 ks vs tableSize ≡ refused n → n < 100
 unfolding addGrounds columnGrounds

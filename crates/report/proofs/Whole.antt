@@ -17,9 +17,9 @@ use Rattle.record.specs.Section.{sections}
 use Rattle.table.specs.Calls.{addSections, addOutcome, addLeaves}
 use Rattle.table.proofs.Accepted.{Left, proper-none, add-left}
 use Rattle.finish.proofs.Outcomes.{never}
-use Rattle.report.specs.Text.{tableSize, refusal, lineFeed, headLine, lineText, emptyTable, addText, columnsText, fileText, reportText}
+use Rattle.report.specs.Text.{tableSize, refusalText, lineFeed, headLine, lineText, emptyTable, addText, columnsText, fileText, reportText}
 use Rattle.report.specs.Answer.{printOutcome, printLeaves}
-use Rattle.report.specs.Steps.{Continued}
+use Rattle.numerals.specs.Steps.{Continued}
 
 -- what an accepted add to the empty table leaves
 pub columns-left : (ks vs : List ℕ) (g : ℕ) → AreBytes ks → addOutcome Double emptyTable 0 ks vs tableSize ≡ accepted g
@@ -33,7 +33,7 @@ columns-accepted ks vs g a e =
     ap (λ o. addText o (addSections Double emptyTable 0 ks vs)) e
     ∙ ap (λ ts. headLine ++ image lineText ts) (sym (columns-left ks vs g a e .holds))
 
-pub columns-refused : (ks vs : List ℕ) (n : ℕ) → addOutcome Double emptyTable 0 ks vs tableSize ≡ refused n → columnsText Double ks vs ≡ refusal n ++ lineFeed
+pub columns-refused : (ks vs : List ℕ) (n : ℕ) → addOutcome Double emptyTable 0 ks vs tableSize ≡ refused n → columnsText Double ks vs ≡ refusalText n ++ lineFeed
 unfolding columnsText addText
 columns-refused ks vs n e = ap (λ o. addText o (addSections Double emptyTable 0 ks vs)) e
 
@@ -41,7 +41,7 @@ pub file-accepted : (f : List ℕ) (n : ℕ) → readOutcome Double f ≡ accept
 unfolding reportText fileText
 file-accepted f n e = ap (λ o. fileText o f) e
 
-pub file-refused : (f : List ℕ) (n : ℕ) → readOutcome Double f ≡ refused n → reportText f ≡ refusal n ++ lineFeed
+pub file-refused : (f : List ℕ) (n : ℕ) → readOutcome Double f ≡ refused n → reportText f ≡ refusalText n ++ lineFeed
 unfolding reportText fileText
 file-refused f n e = ap (λ o. fileText o f) e
 

@@ -1,8 +1,7 @@
--- Worked examples, computed from the definitions: digits, document 01's report, refusals in a line and of a file.
+-- Worked examples, computed from the definitions: document 01's report, refusals in a line and of a file.
 use Prim.Native.Nat.{ℕ, _+_, _*_}
 use mathlib.Core.Path.{_≡_, refl}
 use mathlib.Core.List.{List, [], _∷_, _++_, map}
-use lib.IntN.{pos, negsuc}
 use lib.ListN.{length}
 use lib.Ieee.{round, toBits, ofBits}
 use Rattle.codec.specs.Bytes.{number, bytes, numberAt}
@@ -18,40 +17,8 @@ use Rattle.finish.specs.Figure.{millFigure, beyond}
 use Rattle.table.specs.Combine.{ofRow, levelOf, combine, absorb, added}
 use Rattle.table.specs.Calls.{addGrounds, columnGrounds}
 use Rattle.lists.specs.Lists.{anyOf}
-use Rattle.report.specs.Numerals.{digit, digits, decimalIn, decimal, integer, hexadecimal}
-use Rattle.report.specs.Text.{headLine, refusal, figureField, lastFields, lineWith, lineText, addText, columnsText, fileText, reportText}
-
--- ---- numbers
-
--- 0, 9, 10, 150 and 4294967295
-decimals : map decimal (0 ∷ 9 ∷ 10 ∷ 150 ∷ 4294967295 ∷ [])
-    ≡ (0x30 ∷ [])
-    ∷ (0x39 ∷ [])
-    ∷ (0x31 ∷ 0x30 ∷ [])
-    ∷ (0x31 ∷ 0x35 ∷ 0x30 ∷ [])
-    ∷ (0x34 ∷ 0x32 ∷ 0x39 ∷ 0x34 ∷ 0x39 ∷ 0x36 ∷ 0x37 ∷ 0x32 ∷ 0x39 ∷ 0x35 ∷ [])
-    ∷ []
-unfolding decimal decimalIn digit
-decimals = refl
-
--- -12, -2147483647 and 13
-integers : map integer (negsuc 11 ∷ negsuc 2147483646 ∷ pos 13 ∷ [])
-    ≡ (0x2D ∷ 0x31 ∷ 0x32 ∷ [])
-    ∷ (0x2D ∷ 0x32 ∷ 0x31 ∷ 0x34 ∷ 0x37 ∷ 0x34 ∷ 0x38 ∷ 0x33 ∷ 0x36 ∷ 0x34 ∷ 0x37 ∷ [])
-    ∷ (0x31 ∷ 0x33 ∷ [])
-    ∷ []
-unfolding integer decimal decimalIn digit
-integers = refl
-
--- 0123456789ABCDEF, and leading zeros
-hexadecimals : map hexadecimal (0x0123456789ABCDEF ∷ 0xA ∷ [])
-    ≡ (0x30 ∷ 0x31 ∷ 0x32 ∷ 0x33 ∷ 0x34 ∷ 0x35 ∷ 0x36 ∷ 0x37 ∷ 0x38 ∷ 0x39 ∷ 0x41 ∷ 0x42 ∷ 0x43 ∷ 0x44 ∷ 0x45 ∷ 0x46 ∷ [])
-    ∷ (0x30 ∷ 0x30 ∷ 0x30 ∷ 0x30 ∷ 0x30 ∷ 0x30 ∷ 0x30 ∷ 0x30 ∷ 0x30 ∷ 0x30 ∷ 0x30 ∷ 0x30 ∷ 0x30 ∷ 0x30 ∷ 0x30 ∷ 0x41 ∷ [])
-    ∷ []
-unfolding digits digit
-hexadecimals = refl
-
--- ---- files
+use Rattle.numerals.specs.Numerals.{digit, digits, decimalIn, decimal, integer}
+use Rattle.report.specs.Text.{headLine, refusalText, figureField, lastFields, lineWith, lineText, addText, columnsText, fileText, reportText}
 
 -- a key column, a value column and the trailer
 file : List ℕ → List ℕ → List ℕ
@@ -117,5 +84,5 @@ infiniteText =
 
 reports : map reportText (sample ∷ mixed ∷ file [] [] ∷ [] ∷ file (1 ∷ []) (0x7FF0000000000000 ∷ []) ∷ [])
     ≡ sampleText ∷ mixedText ∷ headText ∷ refusedText ∷ infiniteText ∷ []
-unfolding sample sampleText file mixed mixedText headText refusedText infiniteText reportText fileText columnsText addText lineText lineWith lastFields figureField refusal headLine decimal decimalIn digit digits integer number bytes numberAt cells image marked outside overlap readGrounds readOutcome column keyColumn valueColumn rowsFrom rowsOf columnsFit addGrounds columnGrounds anyOf ofRow levelOf combine absorb added top topFrom given contribution rising sound soundRecords kept nearestDouble tooLarge millFigure beyond round toBits ofBits
+unfolding sample sampleText file mixed mixedText headText refusedText infiniteText reportText fileText columnsText addText lineText lineWith lastFields figureField refusalText headLine decimal decimalIn digit digits integer number bytes numberAt cells image marked outside overlap readGrounds readOutcome column keyColumn valueColumn rowsFrom rowsOf columnsFit addGrounds columnGrounds anyOf ofRow levelOf combine absorb added top topFrom given contribution rising sound soundRecords kept nearestDouble tooLarge millFigure beyond round toBits ofBits
 reports = refl

@@ -1,5 +1,4 @@
--- The definitions that the contracts cite.
-pub mod Numerals
+-- The definitions that the contracts cite, and worked examples.
 pub mod Text
 pub mod Answer
 pub mod Steps

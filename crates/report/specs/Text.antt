@@ -13,7 +13,7 @@ use Rattle.patch.specs.File.{readOutcome, keyColumn, valueColumn}
 use Rattle.record.specs.Section.{Section}
 use Rattle.finish.specs.Finish.{sumOf, figureOf}
 use Rattle.table.specs.Calls.{addOutcome, addSections}
-use Rattle.report.specs.Numerals.{decimal, integer, hexadecimal}
+use Rattle.numerals.specs.Numerals.{decimal, integer, hexadecimal}
 
 -- one space
 abbrev pub space : List ℕ
@@ -36,18 +36,18 @@ headLine =
     ∷ 0x68 ∷ 0x75 ∷ 0x6E ∷ 0x64 ∷ 0x72 ∷ 0x65 ∷ 0x64 ∷ 0x74 ∷ 0x68 ∷ 0x73 ∷ 0x0A ∷ []
 
 -- "refused" and a refusal's number
-unfoldable pub refusal : ℕ → List ℕ
-refusal n = refusedWord ++ decimal n
+unfoldable pub refusalText : ℕ → List ℕ
+refusalText n = refusedWord ++ decimal n
 
 -- the mill figure, or why there is none
 unfoldable pub figureField : Outcome ℤ → List ℕ
 figureField (accepted z) = integer z
-figureField (refused n) = refusal n
+figureField (refused n) = refusalText n
 
 -- the sum's 64 bits and the mill figure; a sum refused takes the place of both
 unfoldable pub lastFields : Outcome Float → Outcome ℤ → List ℕ
 lastFields (accepted x) f = hexadecimal (toBits binary64 x) ++ space ++ figureField f
-lastFields (refused n) f = refusal n
+lastFields (refused n) f = refusalText n
 
 -- a line of section, row count and what follows them
 unfoldable pub lineWith : ℕ → ℕ → List ℕ → List ℕ
@@ -68,7 +68,7 @@ emptyTable = replicate tableSize 0
 -- what the add of two columns prints: only its refusal, or the head line and a line for each section, the keys rising
 unfoldable pub addText : Outcome ℕ → List Section → List ℕ
 addText (accepted g) ts = headLine ++ image lineText ts
-addText (refused n) ts = refusal n ++ lineFeed
+addText (refused n) ts = refusalText n ++ lineFeed
 
 -- what the add of two columns to an empty table prints
 unfoldable pub columnsText : Kind → List ℕ → List ℕ → List ℕ
@@ -77,7 +77,7 @@ columnsText kind ks vs = addText (addOutcome kind emptyTable 0 ks vs tableSize) 
 -- what a file prints: only its refusal, or what the add of its columns prints
 unfoldable pub fileText : Outcome ℕ → List ℕ → List ℕ
 fileText (accepted n) f = columnsText Double (keyColumn Double f) (valueColumn Double f)
-fileText (refused n) f = refusal n ++ lineFeed
+fileText (refused n) f = refusalText n ++ lineFeed
 
 -- the report of a file
 unfoldable pub reportText : List ℕ → List ℕ

@@ -28,7 +28,7 @@ use Rattle.table.proofs.Lookup.{Above, Rising, keysIn}
 use Rattle.table.proofs.Proper.{Proper}
 
 -- a section whose record is sound
-pub record Fits (s : Section) : Type 0 where
+pub record Storable (s : Section) : Type 0 where
   pub proper : Proper s
   pub few : s .count ≤ mostRows
 
@@ -50,7 +50,7 @@ carry-fits (negsuc n) h = record { sfits = omega arith }
 split-in-range : (z : ℤ) → natAbs z ≤ 2 ^ 71 → TotalInRange (splitOf z)
 split-in-range z h = record { residue = omega (arith, residue-lt z); carry = carry-fits z h }
 
-in-range : (s : Section) → Fits s → InRange (recordOf s)
+in-range : (s : Section) → Storable s → InRange (recordOf s)
 in-range s f =
     let p = f .proper in
     let few = f .few in
@@ -90,7 +90,7 @@ sound-record s p =
     (none-below 2 (s .top) (s .low) (p .third))
 
 -- ---- a whole table
-pub records-read : (ts : List Section) (rest : List ℕ) → All Fits ts → records (sectionBytes ts ++ rest) (length ts) ≡ map recordOf ts
+pub records-read : (ts : List Section) (rest : List ℕ) → All Storable ts → records (sectionBytes ts ++ rest) (length ts) ≡ map recordOf ts
 unfolding cells image
 records-read [] rest a = refl
 records-read (t ∷ ts) rest a =
@@ -102,7 +102,7 @@ pub meanings : (ts : List Section) → map meaning (map recordOf ts) ≡ ts
 meanings [] = refl
 meanings (t ∷ ts) = ap₂ _∷_ (meaning-record t) (meanings ts)
 
-pub sections-written : (ts : List Section) (s : List ℕ) → All Fits ts → sections (written ts s) (length ts) ≡ ts
+pub sections-written : (ts : List Section) (s : List ℕ) → All Storable ts → sections (written ts s) (length ts) ≡ ts
 sections-written ts s a = ap (map meaning) (records-read ts (drop (64 * length ts) s) a) ∙ meanings ts
 
 pub length-sectionBytes : (ts : List Section) → length (sectionBytes ts) ≡ 64 * length ts
@@ -134,12 +134,12 @@ unfolding rising
 rising-records [] a = refl
 rising-records (t ∷ ts) a = rising-above (t .key) ts a
 
-pub sound-records : (ts : List Section) → All Fits ts → soundRecords (map recordOf ts) ≡ true
+pub sound-records : (ts : List Section) → All Storable ts → soundRecords (map recordOf ts) ≡ true
 unfolding soundRecords
 sound-records [] a = refl
 sound-records (t ∷ ts) a = rw (sound-record t (a .0 .proper)) (sound-records ts (a .1))
 
-pub sound-written : (ts : List Section) (s : List ℕ) → All Fits ts → Rising (keysIn ts) → length ts ≤ capacity (length s) → sound (written ts s) (length ts) ≡ true
+pub sound-written : (ts : List Section) (s : List ℕ) → All Storable ts → Rising (keysIn ts) → length ts ≤ capacity (length s) → sound (written ts s) (length ts) ≡ true
 unfolding sound
 sound-written ts s a r h =
     rw (

@@ -36,7 +36,7 @@ below-is f t i j e =
     let m : t - i ≡ j = omega arith in
     rw (le-leb i t (omega arith), m)
 
--- a section made from a column holds the column at its three levels and above them, where the column has 0 above the top
+-- a section made from a family of totals holds it at its three levels and above them, where the family has 0 above the top
 pub levelOf-at : (k n t : ℕ) (f : ℕ → ℤ) (j : ℕ) → t ≤ j + 2 → (t < j → f j ≡ pos 0) → levelOf (sectionAt k n t f) j ≡ f j
 unfolding levelOf
 levelOf-at k n t f j l z = go (stands j t l)
@@ -48,7 +48,7 @@ levelOf-at k n t f j l z = go (stands j t l)
         rw (ne-eqb j t (λ h. omega arith), ne-eqb (j + 1) t (λ h. omega arith), eq-eqb (j + 2) t (sym e)) (below-is f t 2 j e)
     go (over h) = levelOf-above (sectionAt k n t f) j h ∙ sym (z h)
 
--- columns that agree from level t - 2 upwards make one section
+-- families that agree from level t - 2 upwards make one section
 below-cong : (f g : ℕ → ℤ) (t i : ℕ) → i ≤ 2 → ((j : ℕ) → t ≤ j + 2 → f j ≡ g j) → below f t i ≡ below g t i
 below-cong f g t i h e = go (decLe i t)
   where
@@ -66,7 +66,7 @@ sectionAt-cong k n t f g e = λ i. record {
   low = below-cong f g t 2 (omega arith) e i;
 }
 
--- sections made from two columns combine to the one made from their sum
+-- sections made from two families combine to the one made from their sum
 pub combine-at : (k n m t u : ℕ) (f g : ℕ → ℤ) → ((j : ℕ) → t < j → f j ≡ pos 0) → ((j : ℕ) → u < j → g j ≡ pos 0)
     → combine (sectionAt k n t f) (sectionAt k m u g) ≡ sectionAt k (n + m) (max t u) (λ (j : ℕ). f j +ℤ g j)
 unfolding combine

@@ -17,11 +17,11 @@ use Rattle.record.specs.Sound.{soundRecord, soundRecords, sound}
 use Rattle.record.specs.Section.{Section, meaning, recordOf, sections, sectionBytes}
 use Rattle.record.proofs.Laws.{encode-decode}
 use Rattle.record.proofs.Parts.{empty-total, sound-record-parts, residue-bound, total-bound}
-use Rattle.record.proofs.Sound.{sound-parts, sound-made}
+use Rattle.record.proofs.Sound.{sound-parts, sound-if}
 use Rattle.lists.proofs.All.{All}
 use Rattle.table.proofs.Lookup.{Rising, keysIn}
 use Rattle.table.proofs.Proper.{Proper}
-use Rattle.table.proofs.Bytes.{Fits, rising-records, sound-records}
+use Rattle.table.proofs.Bytes.{Storable, rising-records, sound-records}
 
 -- ---- one record
 pub section-proper : (r : Record) → r .key < 2 ^ 32 → T (soundRecord r) → Proper (meaning r)
@@ -62,7 +62,7 @@ records-small s g = cells-all Small 64 decode small g s
     small : (b : List ℕ) → AreBytes b → Small (decode b)
     small b a = (numberAt-lt 4 0 b a, numberAt-lt 4 4 b a)
 
-fits-all : (rs : List Record) → All Small rs → T (soundRecords rs) → All Fits (map meaning rs)
+fits-all : (rs : List Record) → All Small rs → T (soundRecords rs) → All Storable (map meaning rs)
 unfolding soundRecords
 fits-all [] a t = tt
 fits-all (r ∷ rs) a t = (
@@ -87,7 +87,7 @@ length-sections s g = length-map (records s g) meaning ∙ length-cells 64 decod
 
 -- ---- a sound table
 module _ (s : List ℕ) (g : ℕ) (ok : T (sound s g)) where
-  pub sound-fits : AreBytes s → All Fits (sections s g)
+  pub sound-fits : AreBytes s → All Storable (sections s g)
   sound-fits a = fits-all (records s g) (records-small s g a) (sound-parts s g ok .3)
 
   pub sound-rising : Rising (keysIn (sections s g))
@@ -97,9 +97,9 @@ module _ (s : List ℕ) (g : ℕ) (ok : T (sound s g)) where
   sound-records-of = records-back (records s g) (sound-parts s g ok .3)
 
 -- records of sections that fit, in rising order, are a sound table
-pub sound-sections : (s : List ℕ) (g : ℕ) (ts : List Section) → g ≤ capacity (length s) → records s g ≡ map recordOf ts → All Fits ts → Rising (keysIn ts) → T (sound s g)
+pub sound-sections : (s : List ℕ) (g : ℕ) (ts : List Section) → g ≤ capacity (length s) → records s g ≡ map recordOf ts → All Storable ts → Rising (keysIn ts) → T (sound s g)
 sound-sections s g ts h e a r =
-    sound-made s g (omega arith) (omega arith)
+    sound-if s g (omega arith) (omega arith)
     (subst T (sym (ap (λ (rs : List Record). rising (keys rs)) e ∙ rising-records ts r)) tt)
     (subst T (sym (ap soundRecords e ∙ sound-records ts a)) tt)
 
@@ -124,6 +124,6 @@ module _ (s t : List ℕ) (g : ℕ) (same : take (g * 64) s ≡ take (g * 64) t)
   pub sound-agree : T (sound t g) → T (sound s g)
   sound-agree ok =
       let p = sound-parts t g ok in
-      sound-made s g long (p .1)
+      sound-if s g long (p .1)
       (subst (λ (rs : List Record). T (rising (keys rs))) (sym records-agree) (p .2))
       (subst (λ (rs : List Record). T (soundRecords rs)) (sym records-agree) (p .3))

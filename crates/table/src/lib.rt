@@ -39,7 +39,7 @@ pub fn check_columns(
 ) -> ColumnCheck
     ensures { λ r. ⌜ checkAnswer r ≡ columnOutcome kind (now (table .entry)) g (now (keys .entry)) (now (values .entry)) work ⌝ }
 {
-    if !record::is_sound(table, g) {
+    if !soundness::is_sound(table, g) {
         return ColumnCheck::Refused(Refusal::TableNotSound);
     }
     if work < table.len() {
@@ -65,7 +65,7 @@ fn nothing() -> SplitTotal
 }
 
 // What a record holds at level j.
-fn total_at(r: Record, j: u32) -> SplitTotal
+fn split_in(r: Record, j: u32) -> SplitTotal
     requires { ⌜ j ≤ 52 ⌝ }
     ensures { λ h. ⌜ h ≡ splitIn r j ⌝ }
 {
@@ -94,7 +94,7 @@ fn total_below(a: Record, b: Record, t: u32, d: u32) -> SplitTotal
     if t < d {
         return nothing();
     }
-    level::add_totals(total_at(a, t - d), total_at(b, t - d))
+    level::add_totals(split_in(a, t - d), split_in(b, t - d))
 }
 
 fn larger(x: u32, y: u32) -> u32

@@ -5,7 +5,7 @@ use mir.Val.{SFits}
 use mir.ValLaws.{toZ-pos}
 use Rattle.refusal.specs.Number.{numberOf}
 use Rattle.patch.specs.Answer.{readAnswer}
-use Rattle.patch.proofs.File.{most-rows}
+use Rattle.patch.proofs.File.{file-rows-bound}
 use Rattle.exports.specs.Calls.{returnsCount}
 use Rattle.exports.proofs.Answers.{refusing}
 use borrow.Author.Needs.{needs}
@@ -38,7 +38,7 @@ returns c =
     let f = c .before .before .before .before .before .before .before .args .file .now in
     let n = c .before .n .given in
     let o = ap readAnswer (sym (n .1)) ∙ c .before .before .before .read .ensures in
-    let few = most-rows f (sym o) in (
+    let few = file-rows-bound f (sym o) in (
       toZ-pos w64 (n .0 .0) (omega arith) ∙ ap returnsCount o,
       (c .before .before .before .before .before .key-start .ensures, c .before .before .before .before .value-start .ensures),
     )

@@ -6,7 +6,7 @@ use lib.Dec.{T}
 use lib.IntN.{ℤ}
 use lib.Ieee.{binary64, toBits, fits}
 use Rattle.refusal.specs.Outcome.{accepted, refused}
-use Rattle.level.specs.Double.{field, significand, negative, signed}
+use Rattle.level.specs.Double.{exponentField, significand, negative, signed}
 use Rattle.finish.specs.Figure.{millFigure, beyond}
 use Rattle.limbs.specs.Nearest.{nearestBy}
 use Rattle.finish.proofs.Fraction.{number, near-figure, far-figure}
@@ -32,8 +32,8 @@ returns c =
 is-negative-requires : tie.Need-is-negative-requires
 is-negative-requires c κs = search needs
 
-digits-requires : tie.Need-digits-requires
-digits-requires c κs = search needs
+significand-requires : tie.Need-significand-requires
+significand-requires c κs = search needs
 
 places-requires : tie.Need-places-requires
 places-requires c κs = search needs
@@ -41,7 +41,7 @@ places-requires c κs = search needs
 nearest-hundredths-requires : tie.Need-nearest-hundredths-requires
 nearest-hundredths-requires c κs =
     let b = toBits binary64 (c .before .before .before .before .before .args .sum) in
-    (lt-of-le-of-lt (le-of-eq (c .before .digits .ensures)) (significand-lt b), c .places .ensures .1)
+    (lt-of-le-of-lt (le-of-eq (c .before .significand .ensures)) (significand-lt b), c .places .ensures .1)
 
 figure-of-size-requires : tie.Need-figure-of-size-requires
 figure-of-size-requires c κs = search needs
@@ -50,14 +50,14 @@ returns-2 : tie.Need-returns-2
 returns-2 c =
     let n = c .before .nearest-hundredths in
     let p = c .before .before .places in
-    let d = c .before .before .before .digits in
+    let d = c .before .before .before .significand in
     let g = c .before .before .before .before .is-negative in
     let f = c .before .before .before .before .before .before .exponent-field in
     let s = c .before .before .before .before .before .before .before in
     let b = toBits binary64 (s .args .sum) in
     let size : n .result ≡ nearestBy (λ (q : ℕ). not (negative b)) (significand b * 100) (2 ^ p .result) =
     n .ensures ∙ ap₂ (λ (m : ℕ) (t : Bool). nearestBy (λ (q : ℕ). not t) (m * 100) (2 ^ p .result)) (d .ensures) (g .ensures) in
-    let places : p .result + (field b - 1) ≡ 1074 = ap (λ (x : ℕ). p .result + (x - 1)) (sym (f .ensures)) ∙ p .ensures .0 in
+    let places : p .result + (exponentField b - 1) ≡ 1074 = ap (λ (x : ℕ). p .result + (x - 1)) (sym (f .ensures)) ∙ p .ensures .0 in
     let e : signed (g .result) (n .result) ≡ millFigure (s .args .sum) = ap₂ (λ (t : Bool) (m : ℕ). signed t m) (g .ensures) size ∙ near-figure (s .args .sum) (holds s) (s .pre) (p .result) places in
     c .figure-of-size .ensures ∙ ap (λ (z : ℤ). cond (beyond z) (refused 15) (accepted z)) e
 
@@ -69,7 +69,7 @@ figure-of-spec =
     exponent-field-requires
     returns
     is-negative-requires
-    digits-requires
+    significand-requires
     places-requires
     nearest-hundredths-requires
     figure-of-size-requires

@@ -1,58 +1,31 @@
 use Rattle.finish.proofs.Outcomes.{found-sound, finished}
 use mathlib.Core.Path.{_∙_}
-use denote.Ref.{now}
 use Rattle.finish.specs.Finish.{lineOf}
-use Rattle.finish.specs.declared.Lookup.the-variants.{Found, Missing, Unsound}
 use borrow.Author.Needs.{needs}
 use Rattle.finish.proofs.line.Statement.{statement}
 use Rattle.finish.proofs.line.Tie as tie
 
-look-up-requires : tie.Need-look-up-requires
-look-up-requires c κs = search needs
-
-enum-known-r : tie.Need-enum-known-r
-enum-known-r c = search needs
-
 record-line-requires : tie.Need-record-line-requires
-record-line-requires c κs =
-    let l = c .before .before .before .look-up in
-    let s = c .before .before .before .before .before .args in
-    found-sound (l .result) (now (s .table)) (s .g) (s .key) (l .ensures) (c .before .r .given .0 .0) (c .before .r .given .1)
-
-enum-told : tie.Need-enum-told
-enum-told c = search needs
-
-enum-told-2 : tie.Need-enum-told-2
-enum-told-2 c = search needs
+record-line-requires c κs = found-sound _ _ _ _ (c .before .before .before .look-up .ensures) _ (c .before .r .given .1)
 
 returns : tie.Need-returns
-returns c =
-    let l = c .before .before .before .before .look-up in
-    let s = c .before .before .before .before .before .before .args in
-    let r = c .before .before .r .given in
-    c .record-line .ensures ∙ finished (l .result) (now (s .table)) (s .g) (s .key) (l .ensures) lineOf (Found (r .0 .0)) (r .1)
+returns c = c .record-line .ensures ∙ finished _ _ _ _ (c .before .before .before .before .look-up .ensures) lineOf _ (c .before .before .r .given .1)
 
 returns-2 : tie.Need-returns-2
-returns-2 c =
-    let l = c .before .before .look-up in
-    let s = c .before .before .before .before .args in
-    finished (l .result) (now (s .table)) (s .g) (s .key) (l .ensures) lineOf Missing (c .enum-told .given .1)
+returns-2 c = finished _ _ _ _ (c .before .before .look-up .ensures) lineOf _ (c .enum-told .given .1)
 
 returns-3 : tie.Need-returns-3
-returns-3 c =
-    let l = c .before .before .look-up in
-    let s = c .before .before .before .before .args in
-    finished (l .result) (now (s .table)) (s .g) (s .key) (l .ensures) lineOf Unsound (c .enum-told2 .given .1)
+returns-3 c = finished _ _ _ _ (c .before .before .look-up .ensures) lineOf _ (c .enum-told2 .given .1)
 
 pub line-spec : {M : Type 1} → statement M
 line-spec =
     tie.close
     (tie.spec
-    look-up-requires
-    enum-known-r
+    (λ c κs. search needs)
+    (λ c. search needs)
     record-line-requires
-    enum-told
-    enum-told-2
+    (λ c. search needs)
+    (λ c. search needs)
     returns
     returns-2
     returns-3)

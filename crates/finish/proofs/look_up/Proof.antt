@@ -32,13 +32,13 @@ at : (c : tie.After-known-told)
     (i * 64 + 64 ≤ length (now (s .table))) × (find (s .key) (sections (now (s .table)) (s .g)) ≡ some (meaning (recordAt (now (s .table)) (i * 64)))) × T (soundRecord (recordAt (now (s .table)) (i * 64)))
 at c =
     let s = c .before .before .before .before .before .before .before .args in
-    found (now (s .table)) (s .g) (s .key) (c .before .i .given .0 .0) (holds (c .before .before .before .before)) (sym (c .before .i .given .1) ∙ c .before .before .before .find .ensures)
+    found (now (s .table)) (s .g) (s .key) (c .before .i .given .0 .0) (holds (c .before .before .before .before)) (sym (c .before .i .given .1) ∙ c .before .before .before .binary-search .ensures)
 
 returns : tie.Need-returns
 returns c = sym (c .before .is-sound .ensures) ∙ not-true (c .before .is-sound .result) (c .if1 .taken)
 
-find-requires : tie.Need-find-requires
-find-requires c κs = let p = sound-parts (now (c .before .before .before .args .table)) (c .before .before .before .args .g) (holds c) in (p .0, p .2)
+binary-search-requires : tie.Need-binary-search-requires
+binary-search-requires c κs = let p = sound-parts (now (c .before .before .before .args .table)) (c .before .before .before .args .g) (holds c) in (p .0, p .2)
 
 enum-known-i : tie.Need-enum-known-i
 enum-known-i c = search needs
@@ -59,7 +59,7 @@ returns-3 : tie.Need-returns-3
 returns-3 c =
     let e = c .before .before .before in
     let s = e .before .before .before .args in
-    (is-true e, missing (now (s .table)) (s .g) (s .key) (c .enum-told .given .0 .0) (holds e) (sym (c .enum-told .given .1) ∙ c .before .before .find .ensures))
+    (is-true e, missing (now (s .table)) (s .g) (s .key) (c .enum-told .given .0 .0) (holds e) (sym (c .enum-told .given .1) ∙ c .before .before .binary-search .ensures))
 
 pub look-up-spec : {M : Type 1} → statement M
 look-up-spec =
@@ -67,7 +67,7 @@ look-up-spec =
     (tie.spec
     is-sound-requires
     returns
-    find-requires
+    binary-search-requires
     enum-known-i
     get-requires
     enum-told

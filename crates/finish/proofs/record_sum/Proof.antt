@@ -22,14 +22,14 @@ few : (c : tie.Start) → c .args .r .count < 2 ^ 32
 few c = search needs
 
 -- the kept value, and what the limbs say of its size and sign
-abbrev value : tie.After-distance → ℤ
+abbrev value : tie.After-abs-diff → ℤ
 value c = kept (meaning (c .before .before .before .args .r))
 
-sized : (c : tie.After-distance)
-    → (natAbs (value c) * 2 ^ 80 ≡ valueOf (c .distance .result .limbs) * 2 ^ (40 * c .before .before .before .args .r .top)) × (not (nonNeg (value c)) ≡ c .distance .result .negative)
+sized : (c : tie.After-abs-diff)
+    → (natAbs (value c) * 2 ^ 80 ≡ valueOf (c .abs-diff .result .limbs) * 2 ^ (40 * c .before .before .before .args .r .top)) × (not (nonNeg (value c)) ≡ c .abs-diff .result .negative)
 sized c =
     let s = c .before .before .before in
-    kept-size (s .args .r) (valueOf (c .distance .result .limbs)) _ _ (c .distance .result .negative) (few s) (s .pre) (c .before .before .raised-limbs .ensures .same) (c .before .raise .ensures .same) (c .distance .ensures .1)
+    kept-size (s .args .r) (valueOf (c .abs-diff .result .limbs)) _ _ (c .abs-diff .result .negative) (few s) (s .pre) (c .before .before .raised-limbs .ensures .same) (c .before .raise .ensures .same) (c .abs-diff .ensures .1)
 
 raised-limbs-requires : tie.Need-raised-limbs-requires
 raised-limbs-requires c κs =
@@ -40,8 +40,8 @@ raised-limbs-requires c κs =
 raise-requires : tie.Need-raise-requires
 raise-requires c κs = search needs
 
-distance-requires : tie.Need-distance-requires
-distance-requires c κs = search needs
+abs-diff-requires : tie.Need-abs-diff-requires
+abs-diff-requires c κs = search needs
 
 is-zero-requires : tie.Need-is-zero-requires
 is-zero-requires c κs = search needs
@@ -49,10 +49,10 @@ is-zero-requires c κs = search needs
 returns : tie.Need-returns
 returns c =
     let d = c .before .before .before in
-    let v = valueOf (d .distance .result .limbs) in
+    let v = valueOf (d .abs-diff .result .limbs) in
     let k = sized d in
     let e : v ≡ 0 = eqb-true v 0 (sym (c .before .is-zero .ensures) ∙ c .if1 .taken) in
-    let n = no-sign v (d .distance .result .negative) _ _ e (d .distance .ensures .1) in
+    let n = no-sign v (d .abs-diff .result .negative) _ _ e (d .abs-diff .ensures .1) in
     answer-zero (value d) (no-size (natAbs (value d)) v _ (k .0) e) (k .1 ∙ n)
 
 cast-nearest-bits : tie.Need-cast-nearest-bits
@@ -65,9 +65,9 @@ nearest-bits-requires : tie.Need-nearest-bits-requires
 nearest-bits-requires c κs =
     let d = c .before .before .before .before in
     let s = d .before .before .before in
-    let v = valueOf (d .distance .result .limbs) in
+    let v = valueOf (d .abs-diff .result .limbs) in
     let k = sized d in (
-      d .distance .ensures .0,
+      d .abs-diff .ensures .0,
       (
         (pos-of-ne-zero (eqb-false v 0 (sym (c .before .before .is-zero .ensures) ∙ c .before .if1 .left)), mul-le-mul-left 40 (sound-record-parts (s .args .r) (s .pre) .top)),
         ap (λ (x : ℕ). x * 2 ^ 80) (units-exact (natAbs (value d)) v _ (k .0)) ∙ k .0,
@@ -81,9 +81,9 @@ returns-2 : tie.Need-returns-2
 returns-2 c =
     let d = c .before .before .before .before .before .before in
     let k = sized d in
-    let e : c .sum-of-bits .result ≡ sumOfBits (c .before .nearest-bits .result) (d .distance .result .negative) = c .sum-of-bits .ensures in
+    let e : c .sum-of-bits .result ≡ sumOfBits (c .before .nearest-bits .result) (d .abs-diff .result .negative) = c .sum-of-bits .ensures in
     e
-    ∙ ap (λ (b : ℕ). sumOfBits b (d .distance .result .negative)) (c .before .nearest-bits .ensures ∙ ap packed (units-exact (natAbs (value d)) (valueOf (d .distance .result .limbs)) _ (k .0)))
+    ∙ ap (λ (b : ℕ). sumOfBits b (d .abs-diff .result .negative)) (c .before .nearest-bits .ensures ∙ ap packed (units-exact (natAbs (value d)) (valueOf (d .abs-diff .result .limbs)) _ (k .0)))
     ∙ ap (λ (s : Bool). sumOfBits (packed (natAbs (value d))) s) (sym (k .1))
     ∙ answer (value d)
 
@@ -93,7 +93,7 @@ record-sum-spec =
     (tie.spec
     raised-limbs-requires
     raise-requires
-    distance-requires
+    abs-diff-requires
     is-zero-requires
     returns
     cast-nearest-bits

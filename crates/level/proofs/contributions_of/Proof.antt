@@ -31,8 +31,8 @@ shift-requires c κs = search needs
 is-negative-requires : tie.Need-is-negative-requires
 is-negative-requires c κs = search needs
 
-digits-requires : tie.Need-digits-requires
-digits-requires c κs = search needs
+significand-requires : tie.Need-significand-requires
+significand-requires c κs = search needs
 
 cut-at-requires : tie.Need-cut-at-requires
 cut-at-requires c κs = let b = c .before .before .before .before .args .bits in omega (arith, significand-lt b, top-place b)
@@ -40,7 +40,7 @@ cut-at-requires c κs = let b = c .before .before .before .before .args .bits in
 lower-two-requires : tie.Need-lower-two-requires
 lower-two-requires c κs =
     let d = c .before .before .before .shift .result in
-    omega (arith, rest-half (c .before .digits .result) (2 ^ d) (pow-pos d), top-place (c .before .before .before .before .before .args .bits))
+    omega (arith, rest-half (c .before .significand .result) (2 ^ d) (pow-pos d), top-place (c .before .before .before .before .before .args .bits))
 
 flipped-if-requires : tie.Need-flipped-if-requires
 flipped-if-requires c κs = search needs
@@ -55,13 +55,13 @@ with-sign-requires : tie.Need-with-sign-requires
 with-sign-requires c κs =
     let e = c .before .before .before in
     let d = e .before .before .before .shift .result in
-    omega (arith, closest-self (e .before .digits .result) (2 ^ d) (pow-pos d), significand-lt (e .before .before .before .before .before .args .bits))
+    omega (arith, closest-self (e .before .significand .result) (2 ^ d) (pow-pos d), significand-lt (e .before .before .before .before .before .args .bits))
 
 with-sign-requires-2 : tie.Need-with-sign-requires-2
 with-sign-requires-2 c κs =
     let e = c .before .before .before .before in
     let d = e .before .before .before .shift .result in
-    let h : e .cut-at .result .rest * 2 ≤ 2 ^ d = omega (arith, rest-half (e .before .digits .result) (2 ^ d) (pow-pos d)) in
+    let h : e .cut-at .result .rest * 2 ≤ 2 ^ d = omega (arith, rest-half (e .before .significand .result) (2 ^ d) (pow-pos d)) in
     omega (arith, closest-step (e .cut-at .result .rest) (2 ^ d) (pow-pos d) h)
 
 with-sign-requires-3 : tie.Need-with-sign-requires-3
@@ -95,7 +95,7 @@ returns c =
     let l = c .before .before .before .before .before .lower-two in
     let s = c .before .before .before .before .flipped-if in
     let q = c .before .before .before .flipped-if2 in
-    let x = e .before .digits in
+    let x = e .before .significand in
     let g = e .before .before .is-negative in
     let d = e .before .before .before .shift in
     let t = three (e .before .before .before .before .before .args .bits) (x .result) (d .result) (f .result .units) (f .result .rest) (l .result .middle) (l .result .low)
@@ -112,7 +112,7 @@ contributions-of-spec =
     top-level-requires
     shift-requires
     is-negative-requires
-    digits-requires
+    significand-requires
     cut-at-requires
     lower-two-requires
     flipped-if-requires

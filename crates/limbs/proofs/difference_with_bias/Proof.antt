@@ -1,48 +1,9 @@
 use Prim.Native.Nat.{_^_}
 use lib.ListN.{getD}
-use Rattle.limbs.proofs.Columns.{difference-same}
+use Rattle.limbs.proofs.Addition.{difference-same}
 use borrow.Author.Needs.{needs}
 use Rattle.limbs.proofs.difference_with_bias.Statement.{statement}
 use Rattle.limbs.proofs.difference_with_bias.Tie as tie
-
-array-read-limb-difference : tie.Need-array-read-limb-difference
-array-read-limb-difference c = search needs
-
-array-read-limb-difference-2 : tie.Need-array-read-limb-difference-2
-array-read-limb-difference-2 c = search needs
-
-limb-difference-requires : tie.Need-limb-difference-requires
-limb-difference-requires c κs = search needs
-
-array-read-limb-difference-3 : tie.Need-array-read-limb-difference-3
-array-read-limb-difference-3 c = search needs
-
-array-read-limb-difference-4 : tie.Need-array-read-limb-difference-4
-array-read-limb-difference-4 c = search needs
-
-limb-difference-requires-2 : tie.Need-limb-difference-requires-2
-limb-difference-requires-2 c κs = search needs
-
-array-read-limb-difference-5 : tie.Need-array-read-limb-difference-5
-array-read-limb-difference-5 c = search needs
-
-array-read-limb-difference-6 : tie.Need-array-read-limb-difference-6
-array-read-limb-difference-6 c = search needs
-
-limb-difference-requires-3 : tie.Need-limb-difference-requires-3
-limb-difference-requires-3 c κs = search needs
-
-array-read-limb-difference-7 : tie.Need-array-read-limb-difference-7
-array-read-limb-difference-7 c = search needs
-
-array-read-limb-difference-8 : tie.Need-array-read-limb-difference-8
-array-read-limb-difference-8 c = search needs
-
-limb-difference-requires-4 : tie.Need-limb-difference-requires-4
-limb-difference-requires-4 c κs = search needs
-
-propagate-requires : tie.Need-propagate-requires
-propagate-requires c κs = search needs
 
 returns : tie.Need-returns
 returns c =
@@ -64,17 +25,17 @@ pub difference-with-bias-spec : {M : Type 1} → statement M
 difference-with-bias-spec =
     tie.close
     (tie.spec
-    array-read-limb-difference
-    array-read-limb-difference-2
-    limb-difference-requires
-    array-read-limb-difference-3
-    array-read-limb-difference-4
-    limb-difference-requires-2
-    array-read-limb-difference-5
-    array-read-limb-difference-6
-    limb-difference-requires-3
-    array-read-limb-difference-7
-    array-read-limb-difference-8
-    limb-difference-requires-4
-    propagate-requires
+    (λ c. search needs)
+    (λ c. search needs)
+    (λ c κs. search needs)
+    (λ c. search needs)
+    (λ c. search needs)
+    (λ c κs. search needs)
+    (λ c. search needs)
+    (λ c. search needs)
+    (λ c κs. search needs)
+    (λ c. search needs)
+    (λ c. search needs)
+    (λ c κs. search needs)
+    (λ c κs. search needs)
     returns)

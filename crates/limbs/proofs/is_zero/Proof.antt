@@ -1,5 +1,5 @@
 use lib.ListN.{getD}
-use Rattle.limbs.proofs.Columns.{zero-same}
+use Rattle.limbs.proofs.Addition.{zero-same}
 use borrow.Author.Needs.{needs}
 use Rattle.limbs.proofs.is_zero.Statement.{statement}
 use Rattle.limbs.proofs.is_zero.Tie as tie

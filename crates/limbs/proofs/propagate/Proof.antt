@@ -1,4 +1,4 @@
-use Rattle.limbs.proofs.Columns.{sum-lt, sum-fits, sum-le, sum-one}
+use Rattle.limbs.proofs.Addition.{sum-lt, sum-fits, sum-le, sum-one}
 use borrow.Author.Needs.{needs}
 use Rattle.limbs.proofs.propagate.Statement.{statement}
 use Rattle.limbs.proofs.propagate.Tie as tie

@@ -21,18 +21,18 @@ use Rattle.merge.proofs.united.Statement.{statement}
 use Rattle.merge.proofs.united.Tie as tie
 
 abbrev Inv-loop : tie.InvT-loop
-Inv-loop first g1 second g2 i₀ j₀ n₀ over₀ i j n overflow =
+Inv-loop first g1 second g2 i₀ j₀ n₀ overflow₀ i j n overflow =
     T (sound first i) × T (sound second j) × (n + i + j ≤ 2048)
     × (n + length (mergeSections first i second j) ≡ length (mergeSections first g1 second g2))
     × ((overflow || anyOf overflows (mergeSections first i second j)) ≡ anyOf overflows (mergeSections first g1 second g2))
 
 abbrev μ-loop : tie.MeasureT-loop
-μ-loop first g1 second g2 i₀ j₀ n₀ over₀ i j n overflow = i + j
+μ-loop first g1 second g2 i₀ j₀ n₀ overflow₀ i j n overflow = i + j
 
 -- what one section more says of a section with too many rows; `rest` is what the sections before it say
-module _ {s s′ : List ℕ} {i j : ℕ} {e : Ends} (b : Back s i s′ j e) (overflow : Bool) {r : ℕ} (q : r ≡ lastSection s i s′ j e .count) {over′ all : Bool} where
-  taken : mostRows < r → over′ ≡ true → (overflow || anyOf overflows (mergeSections s i s′ j)) ≡ all
-      → (over′ || anyOf overflows (mergeSections s (e .i) s′ (e .j))) ≡ all
+module _ {s s′ : List ℕ} {i j : ℕ} {e : Ends} (b : Back s i s′ j e) (overflow : Bool) {r : ℕ} (q : r ≡ lastSection s i s′ j e .count) {overflow′ all : Bool} where
+  taken : mostRows < r → overflow′ ≡ true → (overflow || anyOf overflows (mergeSections s i s′ j)) ≡ all
+      → (overflow′ || anyOf overflows (mergeSections s (e .i) s′ (e .j))) ≡ all
   taken h w v =
       let rest : Bool = anyOf overflows (mergeSections s (e .i) s′ (e .j)) in
       let x = lt-ltb mostRows (lastSection s i s′ j e .count) (omega (arith, q)) in
@@ -41,8 +41,8 @@ module _ {s s′ : List ℕ} {i j : ℕ} {e : Ends} (b : Back s i s′ j e) (ove
       ∙ ap (λ (z : Bool). overflow || z) (sym (any-back b ∙ ap (λ (z : Bool). rest || z) x ∙ or-true rest))
       ∙ v
 
-  passed : r ≤ mostRows → over′ ≡ overflow → (overflow || anyOf overflows (mergeSections s i s′ j)) ≡ all
-      → (over′ || anyOf overflows (mergeSections s (e .i) s′ (e .j))) ≡ all
+  passed : r ≤ mostRows → overflow′ ≡ overflow → (overflow || anyOf overflows (mergeSections s i s′ j)) ≡ all
+      → (overflow′ || anyOf overflows (mergeSections s (e .i) s′ (e .j))) ≡ all
   passed h w v =
       let rest : Bool = anyOf overflows (mergeSections s (e .i) s′ (e .j)) in
       let x = le-ltb mostRows (lastSection s i s′ j e .count) (omega (arith, q)) in

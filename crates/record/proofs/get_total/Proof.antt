@@ -1,4 +1,6 @@
+use mathlib.Core.Path.{_∙_}
 use mir.Syntax.{w64}
+use mir.Val.{SFits}
 use mir.ValLaws.{toZ-ofZ}
 use borrow.Author.Needs.{needs}
 use Rattle.record.proofs.get_total.Statement.{statement}
@@ -13,8 +15,11 @@ add-i64-at c = search needs
 i64-at-requires : tie.Need-i64-at-requires
 i64-at-requires c κs = search needs
 
+in-range : (c : tie.After-i64-at) → SFits w64 (c .i64-at .result)
+in-range c = search needs
+
 returns : tie.Need-returns
-returns c = cc (toZ-ofZ w64 (c .i64-at .result) (search needs))
+returns c = λ k. record { residue = c .before .u64-at .ensures k; carry = (toZ-ofZ w64 (c .i64-at .result) (in-range c) ∙ c .i64-at .ensures) k }
 
 pub get-total-spec : {M : Type 1} → statement M
 get-total-spec = tie.close (tie.spec u64-at-requires add-i64-at i64-at-requires returns)

@@ -4,14 +4,14 @@ use borrow.Author.Needs.{needs}
 use Rattle.record.proofs.insert.Statement.{statement}
 use Rattle.record.proofs.insert.Tie as tie
 
-mul-shift : tie.Need-mul-shift
-mul-shift c = search needs
+mul-move-up : tie.Need-mul-move-up
+mul-move-up c = search needs
 
-mul-shift-2 : tie.Need-mul-shift-2
-mul-shift-2 c = search needs
+mul-move-up-2 : tie.Need-mul-move-up-2
+mul-move-up-2 c = search needs
 
-shift-requires : tie.Need-shift-requires
-shift-requires c κs = search needs
+move-up-requires : tie.Need-move-up-requires
+move-up-requires c κs = search needs
 
 put-requires : tie.Need-put-requires
 put-requires c κs = search needs
@@ -25,8 +25,8 @@ returns c =
     let q = p .before .before .before .before in
     let s = q .before .before .before in
     let a = s .args in
-    inserted (a .t .now) (a .g) (a .i) (a .r) (s .pre .0) (s .pre .1) (q .shift .ensures) (p .put .ensures .0) (p .put .ensures .1)
+    inserted (a .t .now) (a .g) (a .i) (a .r) (s .pre .0) (s .pre .1) (q .move-up .ensures) (p .put .ensures .0) (p .put .ensures .1)
 
 pub insert-spec : {M : Type 1} → statement M
 insert-spec =
-    tie.close (tie.spec mul-shift mul-shift-2 shift-requires put-requires same-length returns)
+    tie.close (tie.spec mul-move-up mul-move-up-2 move-up-requires put-requires same-length returns)

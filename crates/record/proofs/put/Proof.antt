@@ -1,51 +1,52 @@
 -- `put` writes field after field; the seven parts stand one behind the other, so they are the record's encoding.
 use Prim.Native.Nat.{_*_}
 use Rattle.record.proofs.Laws.{stored, decode-encode, InRange}
+use native.Mathlib.Omega.{arith}
 use borrow.Author.Needs.{needs}
 use Rattle.record.proofs.put.Statement.{statement}
 use Rattle.record.proofs.put.Tie as tie
 
 mul-at : tie.Need-mul-at
-mul-at c = search needs
+mul-at c = omega arith
 
 put-u32-requires : tie.Need-put-u32-requires
-put-u32-requires c κs = search needs
+put-u32-requires c κs = omega arith
 
 add-put-u32 : tie.Need-add-put-u32
-add-put-u32 c = search needs
+add-put-u32 c = omega arith
 
 put-u32-requires-2 : tie.Need-put-u32-requires-2
-put-u32-requires-2 c κs = search needs
+put-u32-requires-2 c κs = omega arith
 
 add-put-u32-2 : tie.Need-add-put-u32-2
-add-put-u32-2 c = search needs
+add-put-u32-2 c = omega arith
 
 put-u32-requires-3 : tie.Need-put-u32-requires-3
-put-u32-requires-3 c κs = search needs
+put-u32-requires-3 c κs = omega arith
 
 add-put-u32-3 : tie.Need-add-put-u32-3
-add-put-u32-3 c = search needs
+add-put-u32-3 c = omega arith
 
 put-u32-requires-4 : tie.Need-put-u32-requires-4
-put-u32-requires-4 c κs = search needs
+put-u32-requires-4 c κs = omega arith
 
 add-put-total : tie.Need-add-put-total
-add-put-total c = search needs
+add-put-total c = omega arith
 
 put-total-requires : tie.Need-put-total-requires
-put-total-requires c κs = search needs
+put-total-requires c κs = omega arith
 
 add-put-total-2 : tie.Need-add-put-total-2
-add-put-total-2 c = search needs
+add-put-total-2 c = omega arith
 
 put-total-requires-2 : tie.Need-put-total-requires-2
-put-total-requires-2 c κs = search needs
+put-total-requires-2 c κs = omega arith
 
 add-put-total-3 : tie.Need-add-put-total-3
-add-put-total-3 c = search needs
+add-put-total-3 c = omega arith
 
 put-total-requires-3 : tie.Need-put-total-requires-3
-put-total-requires-3 c κs = search needs
+put-total-requires-3 c κs = omega arith
 
 same-length : tie.Need-same-length
 same-length c = search needs

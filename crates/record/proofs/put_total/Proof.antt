@@ -19,12 +19,16 @@ put-i64-requires c κs = search needs
 same-length : tie.Need-same-length
 same-length c = search needs
 
+in-range : (c : tie.Start) → SFits w64 (c .args .x .carry)
+in-range c = search needs
+
 returns : tie.Need-returns
 returns c =
-    let a = c .before .before .before .before .before .before .before .before .before .before .args in
-    let f : SFits w64 (a .x .carry) = search needs in
+    let p = c .before .before in
+    let q = p .before .before .before .before .before in
+    let a = q .before .before .before .args in
     sets-then (a .t .now) (a .at) 8 (bytes 8 (a .x .residue)) (bytes 8 (ofZ w64 (a .x .carry)))
-    (c .before .before .before .before .before .before .before .put-u64 .ensures) (length-bytes 8 (a .x .residue)) (rw (toZ-ofZ w64 (a .x .carry) f) at (c .before .before .put-i64 .ensures))
+    (q .put-u64 .ensures) (length-bytes 8 (a .x .residue)) (rw (toZ-ofZ w64 (a .x .carry) (in-range (q .before .before .before))) at (p .put-i64 .ensures))
 
 pub put-total-spec : {M : Type 1} → statement M
 put-total-spec =

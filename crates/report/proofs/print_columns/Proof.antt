@@ -3,12 +3,14 @@ use mathlib.Core.Path.{_≡_, sym, ap, _∙_}
 use Prim.Native.Nat.{ℕ}
 use mathlib.Core.List.{List}
 use native.Mathlib.Omega.{arith}
+use lib.ListN.{length}
 use Rattle.codec.proofs.Laws.{AreBytes}
 use Rattle.refusal.specs.Number.{numberOf}
 use Rattle.columns.specs.declared.Kind.the-variants.{Double}
 use Rattle.table.specs.Answer.{tableAnswer}
 use Rattle.table.specs.Calls.{addOutcome}
 use Rattle.report.specs.Text.{tableSize, emptyTable}
+use Rattle.numerals.proofs.Texts.{longer}
 use Rattle.report.proofs.Whole.{columns-left, columns-accepted, columns-refused}
 use borrow.Author.Needs.{needs}
 use Rattle.report.proofs.print_columns.Statement.{statement}
@@ -24,6 +26,10 @@ module _ (d : tie.After-add) where
 
   bytes-here : AreBytes keys
   bytes-here i = d .before .before .before .before .shared-slice-known .given i .fits
+
+  -- of its own, so that a table of another size is refused by that size
+  capacity-here : length (d .add .last .0) ≡ tableSize
+  capacity-here = d .add .kept .0
 
   outcome-here : addOutcome Double emptyTable 0 keys values tableSize ≡ tableAnswer (d .add .result)
   outcome-here = sym (d .add .ensures .0)
@@ -53,11 +59,11 @@ print-table-requires c κs =
 enum-known-r : tie.Need-enum-known-r
 enum-known-r c = search needs
 
-number-requires : tie.Need-number-requires
-number-requires c κs = search needs
+number-of-requires : tie.Need-number-of-requires
+number-of-requires c κs = search needs
 
-print-refused-requires : tie.Need-print-refused-requires
-print-refused-requires c κs = search needs
+print-refusal-requires : tie.Need-print-refusal-requires
+print-refusal-requires c κs = search needs
 
 same-length : tie.Need-same-length
 same-length c = search needs
@@ -77,7 +83,7 @@ returns-2 c =
     let e = c .before .before .before .before .before .before in
     let d = e .before .before .before .before in
     let r = e .r .given in
-    rw (columns-refused (keys d) (values d) (numberOf (r .0 .0)) (outcome-here d ∙ ap tableAnswer (r .1)), ← c .before .before .before .number .ensures) (c .before .before .print-refused .ensures)
+    rw (columns-refused (keys d) (values d) (numberOf (r .0 .0)) (outcome-here d ∙ ap tableAnswer (r .1)), ← c .before .before .before .number-of .ensures) (longer (c .before .before .print-refusal .ensures) (omega arith))
 
 pub print-columns-spec : {M : Type 1} → statement M
 print-columns-spec =
@@ -90,8 +96,8 @@ print-columns-spec =
     slice-aggregate-print-table
     print-table-requires
     enum-known-r
-    number-requires
-    print-refused-requires
+    number-of-requires
+    print-refusal-requires
     same-length
     returns
     same-length-2

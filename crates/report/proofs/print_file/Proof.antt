@@ -1,10 +1,25 @@
-use mathlib.Core.Path.{sym, ap, _∙_}
+-- `print_file` prints what the columns of an accepted file print, or the file's refusal.
+use Prim.Native.Nat.{ℕ}
+use mathlib.Core.Path.{_≡_, sym, ap, _∙_}
+use mathlib.Core.List.{List}
+use native.Mathlib.Omega.{arith}
 use Rattle.refusal.specs.Number.{numberOf}
+use Rattle.columns.specs.declared.Kind.the-variants.{Double}
+use Rattle.patch.specs.File.{readOutcome}
 use Rattle.patch.specs.Answer.{readAnswer}
+use Rattle.numerals.proofs.Texts.{longer}
 use Rattle.report.proofs.Whole.{file-accepted, file-refused}
 use borrow.Author.Needs.{needs}
 use Rattle.report.proofs.print_file.Statement.{statement}
 use Rattle.report.proofs.print_file.Tie as tie
+
+-- where the file was read
+module _ (d : tie.After-read) where
+  abbrev file : List ℕ
+  file = d .before .before .before .args .file .now
+
+  outcome-here : readOutcome Double file ≡ readAnswer (d .read .result)
+  outcome-here = sym (d .read .ensures)
 
 read-requires : tie.Need-read-requires
 read-requires c κs = search needs
@@ -24,31 +39,31 @@ print-columns-requires c κs = search needs
 enum-known-r : tie.Need-enum-known-r
 enum-known-r c = search needs
 
-number-requires : tie.Need-number-requires
-number-requires c κs = search needs
+number-of-requires : tie.Need-number-of-requires
+number-of-requires c κs = search needs
 
-print-refused-requires : tie.Need-print-refused-requires
-print-refused-requires c κs = search needs
+print-refusal-requires : tie.Need-print-refusal-requires
+print-refusal-requires c κs = search needs
 
 same-length : tie.Need-same-length
 same-length c = search needs
 
 returns : tie.Need-returns
 returns c =
-    let f = c .before .before .before .before .before .before .before .before .before .before .before .args .file .now in
-    let n = c .before .before .before .before .before .before .enum-told .given in
-    let e = sym (c .before .before .before .before .before .before .before .before .read .ensures) ∙ ap readAnswer (n .1) in
-    rw (file-accepted f (n .0 .0) e, ← c .before .before .before .before .keys .ensures .0, ← c .before .before .before .values .ensures .0) (c .before .before .print-columns .ensures)
+    let e = c .before .before .before .before .before .before in
+    let d = e .before .before in
+    let n = e .enum-told .given in
+    rw (file-accepted (file d) (n .0 .0) (outcome-here d ∙ ap readAnswer (n .1)), ← c .before .before .before .before .keys .ensures .0, ← c .before .before .before .values .ensures .0) (c .before .before .print-columns .ensures)
 
 same-length-2 : tie.Need-same-length-2
 same-length-2 c = search needs
 
 returns-2 : tie.Need-returns-2
 returns-2 c =
-    let f = c .before .before .before .before .before .before .before .before .before .before .before .args .file .now in
-    let r = c .before .before .before .before .before .before .r .given in
-    let e = sym (c .before .before .before .before .before .before .before .before .read .ensures) ∙ ap readAnswer (r .1) in
-    rw (file-refused f (numberOf (r .0 .0)) e, ← c .before .before .before .number .ensures) (c .before .before .print-refused .ensures)
+    let e = c .before .before .before .before .before .before in
+    let d = e .before .before in
+    let r = e .r .given in
+    rw (file-refused (file d) (numberOf (r .0 .0)) (outcome-here d ∙ ap readAnswer (r .1)), ← c .before .before .before .number-of .ensures) (longer (c .before .before .print-refusal .ensures) (omega arith))
 
 pub print-file-spec : {M : Type 1} → statement M
 print-file-spec =
@@ -60,8 +75,8 @@ print-file-spec =
     values-requires
     print-columns-requires
     enum-known-r
-    number-requires
-    print-refused-requires
+    number-of-requires
+    print-refusal-requires
     same-length
     returns
     same-length-2

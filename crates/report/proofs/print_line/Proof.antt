@@ -1,43 +1,69 @@
+use mathlib.Core.List.{_++_}
 use native.Mathlib.Omega.{arith}
+use lib.IntN.{ℤ}
 use mir.Syntax.{w32}
 use mir.Val.{SFits}
 use mir.ValLaws.{toZ-ofZ}
-use Rattle.report.specs.Text.{lineWith, lastFields, figureField}
-use Rattle.report.proofs.Texts.{then}
+use Rattle.finish.proofs.Fraction.{number}
+use Rattle.numerals.specs.Numerals.{decimal, integer}
+use Rattle.numerals.specs.Steps.{Continued}
+use Rattle.numerals.proofs.Texts.{then-ended}
+use Rattle.report.specs.Text.{space, lineFeed, lastFields, figureField}
+use Rattle.report.specs.Steps.{startSize}
+use Rattle.report.proofs.Lines.{line-printed}
 use borrow.Author.Needs.{needs}
 use Rattle.report.proofs.print_line.Statement.{statement}
 use Rattle.report.proofs.print_line.Tie as tie
 
+-- where the last field was printed
+module _ (c : tie.After-print-integer-field) where
+  abbrev sum-printed : tie.After-print-bits-field
+  sum-printed = c .before .before .before .before .before
+
+  abbrev start-printed : tie.After-print-start
+  start-printed = sum-printed .before .before .before .before .before
+
+  abbrev start : tie.Start
+  start = start-printed .before .before .before
+
+  numbers-printed : Continued (start .args .text .now) (start .args .at) (decimal (start .args .line .key) ++ space ++ decimal (start .args .line .count) ++ space) startSize (start-printed .print-start .last .0) (start-printed .print-start .result)
+  numbers-printed = start-printed .print-start .ensures
+
+  abbrev figure : ℤ
+  figure = start .args .line .figure
+
+  figure-fits : SFits w32 figure
+  figure-fits = omega (arith, c .before .struct-told .given)
+
 print-start-requires : tie.Need-print-start-requires
 print-start-requires c κs = search needs
 
-print-sum-requires : tie.Need-print-sum-requires
-print-sum-requires c κs = search needs
+float-to-bits-print-bits-field : tie.Need-float-to-bits-print-bits-field
+float-to-bits-print-bits-field c = let s = c .before .before .before .before .before .before .before in number (s .args .line .sum) (s .pre .1)
 
-print-integer-requires : tie.Need-print-integer-requires
-print-integer-requires c κs = search needs
+print-bits-field-requires : tie.Need-print-bits-field-requires
+print-bits-field-requires c κs = search needs
 
-print-byte-requires : tie.Need-print-byte-requires
-print-byte-requires c κs = search needs
+print-integer-field-requires : tie.Need-print-integer-field-requires
+print-integer-field-requires c κs = search needs
 
 same-length : tie.Need-same-length
 same-length c = search needs
 
 returns : tie.Need-returns
-unfolding lineWith lastFields figureField
+unfolding lastFields figureField
 returns c =
-    let s = c .before .before .before .before .before .before .before .before .before .before .before .before .before .before .before .before .before .before in
-    let f : SFits w32 (s .args .line .figure) = omega (arith, c .before .before .before .before .before .before .before .struct-told .given) in
-    let figure = rw (toZ-ofZ w32 (s .args .line .figure) f) at (c .before .before .before .before .before .before .print-integer .ensures) in
-    then (then (c .before .before .before .before .before .before .before .before .before .before .before .before .before .before .before .print-start .ensures) (then (c .before .before .before .before .before .before .before .before .before .before .before .print-sum .ensures) figure)) (c .before .before .print-byte .ensures)
+    let d = c .before .before in
+    let last = rw (toZ-ofZ w32 (figure d) (figure-fits d)) at (d .print-integer-field .ensures) in
+    line-printed _ _ _ (numbers-printed d) (then-ended (integer (figure d)) lineFeed (sum-printed d .print-bits-field .ensures) last)
 
 pub print-line-spec : {M : Type 1} → statement M
 print-line-spec =
     tie.close
     (tie.spec
     print-start-requires
-    print-sum-requires
-    print-integer-requires
-    print-byte-requires
+    float-to-bits-print-bits-field
+    print-bits-field-requires
+    print-integer-field-requires
     same-length
     returns)

@@ -1,8 +1,23 @@
-use Rattle.report.specs.Text.{refusal}
-use Rattle.report.proofs.Texts.{then}
+use Prim.Native.Nat.{ℕ, _+_}
+use mathlib.Core.List.{List, _++_}
+use Rattle.numerals.specs.Numerals.{decimal}
+use Rattle.numerals.specs.Steps.{Continued, decimalSize}
+use Rattle.numerals.proofs.Texts.{then-ended}
+use Rattle.report.specs.Text.{refusalText, lineFeed}
 use borrow.Author.Needs.{needs}
 use Rattle.report.proofs.print_refusal.Statement.{statement}
 use Rattle.report.proofs.print_refusal.Tie as tie
+
+-- where the number was printed
+module _ (c : tie.After-print-decimal-field) where
+  abbrev word-printed : tie.After-print-bytes
+  word-printed = c .before .before .before .before
+
+  abbrev number : List ℕ
+  number = decimal (word-printed .before .before .before .before .args .n)
+
+  number-printed : Continued (word-printed .print-bytes .last .0) (word-printed .print-bytes .result) (number ++ lineFeed) (decimalSize + 1) (c .print-decimal-field .last .0) (c .print-decimal-field .result)
+  number-printed = c .print-decimal-field .ensures
 
 slice-aggregate-print-bytes : tie.Need-slice-aggregate-print-bytes
 slice-aggregate-print-bytes c = search needs
@@ -10,15 +25,15 @@ slice-aggregate-print-bytes c = search needs
 print-bytes-requires : tie.Need-print-bytes-requires
 print-bytes-requires c κs = search needs
 
-print-decimal-requires : tie.Need-print-decimal-requires
-print-decimal-requires c κs = search needs
+print-decimal-field-requires : tie.Need-print-decimal-field-requires
+print-decimal-field-requires c κs = search needs
 
 same-length : tie.Need-same-length
 same-length c = search needs
 
 returns : tie.Need-returns
-unfolding refusal
-returns c = then (c .before .before .before .before .before .before .print-bytes .ensures) (c .before .before .print-decimal .ensures)
+unfolding refusalText
+returns c = let d = c .before .before in then-ended (number d) lineFeed (word-printed d .print-bytes .ensures) (number-printed d)
 
 pub print-refusal-spec : {M : Type 1} → statement M
 print-refusal-spec =
@@ -26,6 +41,6 @@ print-refusal-spec =
     (tie.spec
     slice-aggregate-print-bytes
     print-bytes-requires
-    print-decimal-requires
+    print-decimal-field-requires
     same-length
     returns)

@@ -8,7 +8,7 @@ use Rattle.finish.specs.Finish.{sumOf}
 use Rattle.finish.specs.Answer.{lineAnswer, sumAnswer}
 use Rattle.finish.specs.Steps.{FiniteSum}
 use Rattle.finish.proofs.Outcomes.{sum-for, finite-for}
-use Rattle.report.proofs.Texts.{longer}
+use Rattle.numerals.proofs.Texts.{longer}
 use Rattle.report.proofs.Lines.{Written, finished, unfinished}
 use Rattle.report.proofs.print_section.Statement.{statement}
 use Rattle.report.proofs.print_section.Tie as tie

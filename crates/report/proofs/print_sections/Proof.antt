@@ -15,26 +15,27 @@ use Rattle.record.specs.declared.Record.{Record}
 use Rattle.record.proofs.Found.{sound-record-at}
 use Rattle.table.proofs.State.{length-sections}
 use Rattle.report.specs.Text.{lineText}
-use Rattle.report.specs.Steps.{Continued}
-use Rattle.report.proofs.Texts.{then, longer, nothing}
+use Rattle.numerals.specs.Steps.{Continued}
+use Rattle.numerals.proofs.Texts.{then, longer, nothing}
+use Rattle.report.specs.Steps.{longestLine}
 use Rattle.report.proofs.Lines.{inside, more-lines}
 use Rattle.report.proofs.print_sections.Statement.{statement}
 use Rattle.report.proofs.print_sections.Tie as tie
 
 abbrev Inv-loop : tie.InvT-loop
 Inv-loop text₀ at table g end₀ i₀ text end i =
-    (i ≤ g) × (length text ≡ length text₀) × Continued text₀ at (image lineText (take i (sections table g))) (58 * i) text end
+    (i ≤ g) × (length text ≡ length text₀) × Continued text₀ at (image lineText (take i (sections table g))) (longestLine * i) text end
 
 abbrev μ-loop : tie.MeasureT-loop
 μ-loop text₀ at table g end₀ i₀ text end i = g - i
 
 iteration : (s₀ : List ℕ) (at : ℕ) (t : List ℕ) (g : ℕ) (s : List ℕ) (end i : ℕ) (s′ : List ℕ) (r : ℕ) → T (sound t g) → Inv-loop s₀ at t g at 0 s end i → i < g
-    → length s′ ≡ length s → Continued s end (lineText (meaning (recordAt t (i * 64)))) 58 s′ r → Inv-loop s₀ at t g at 0 s′ r (i + 1)
+    → length s′ ≡ length s → Continued s end (lineText (meaning (recordAt t (i * 64)))) longestLine s′ r → Inv-loop s₀ at t g at 0 s′ r (i + 1)
 iteration s₀ at t g s end i s′ r ok inv h l p =
-    (omega arith, l ∙ inv .1, rw (add-one, more-lines t g i ok h) (longer (then (inv .2) p) (omega arith)))
+    (omega arith, l ∙ inv .1, rw (add-one i, more-lines t g i ok h) (longer (then (inv .2) p) (omega arith)))
 
 done : (s₀ : List ℕ) (at : ℕ) (t : List ℕ) (g : ℕ) (s : List ℕ) (end i : ℕ) → Inv-loop s₀ at t g at 0 s end i → i ≡ g
-    → Continued s₀ at (image lineText (sections t g)) (58 * g) s end
+    → Continued s₀ at (image lineText (sections t g)) (longestLine * g) s end
 done s₀ at t g s end i inv e =
     let l : length (sections t g) ≤ g = omega (arith, length-sections t g) in
     rw (e, take-all g (sections t g)) at (inv .2)

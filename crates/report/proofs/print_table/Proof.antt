@@ -1,6 +1,6 @@
 use native.Mathlib.Omega.{arith}
 use Rattle.report.specs.Text.{headLine}
-use Rattle.report.proofs.Texts.{then, longer}
+use Rattle.numerals.proofs.Texts.{then, longer}
 use borrow.Author.Needs.{needs}
 use Rattle.report.proofs.print_table.Statement.{statement}
 use Rattle.report.proofs.print_table.Tie as tie

@@ -1,8 +1,15 @@
+use Prim.Native.Nat.{ℕ}
+use mathlib.Core.List.{List}
 use native.Mathlib.Omega.{arith}
 use Rattle.report.proofs.Whole.{does-fit, does-not-fit}
 use borrow.Author.Needs.{needs}
 use Rattle.report.proofs.report.Statement.{statement}
 use Rattle.report.proofs.report.Tie as tie
+
+-- where the file was printed
+module _ (c : tie.After-print-file) where
+  abbrev out : List ℕ
+  out = c .before .before .before .before .args .out .now
 
 slice-aggregate-print-file : tie.Need-slice-aggregate-print-file
 slice-aggregate-print-file c = search needs
@@ -11,7 +18,7 @@ print-file-requires : tie.Need-print-file-requires
 print-file-requires c κs = search needs
 
 returns : tie.Need-returns
-returns c = does-not-fit (c .before .before .print-file .ensures) (omega arith) (c .before .before .before .before .before .before .args .out .now) (c .if1 .taken)
+returns c = let d = c .before .before in does-not-fit (d .print-file .ensures) (omega arith) (out d) (c .if1 .taken)
 
 slice-aggregate-copy : tie.Need-slice-aggregate-copy
 slice-aggregate-copy c = search needs
@@ -23,7 +30,10 @@ same-length : tie.Need-same-length
 same-length c = search needs
 
 returns-2 : tie.Need-returns-2
-returns-2 c = does-fit (c .before .before .before .before .before .before .before .print-file .ensures) (omega arith) (c .before .before .before .before .before .before .before .before .before .before .before .args .out .now) (c .before .before .copy .last .0) (c .before .before .before .before .before .if1 .left) (c .before .before .copy .ensures)
+returns-2 c =
+    let copied = c .before .before in
+    let d = copied .before .before .before .before .before in
+    does-fit (d .print-file .ensures) (omega arith) (out d) (copied .copy .last .0) (copied .before .before .before .if1 .left) (copied .copy .ensures)
 
 pub report-spec : {M : Type 1} → statement M
 report-spec =

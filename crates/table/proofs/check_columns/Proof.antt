@@ -1,14 +1,16 @@
 -- `check_columns` makes the tests of 7 to 10 in their order.
 use mathlib.Core.Path.{_≡_, refl, sym, _∙_}
 use mathlib.Core.Bool.{true, false}
+use mathlib.Core.List.{[], _∷_}
 use borrow.Author.Needs.{needs}
 use borrow.Author.Tests.{not-true, not-false, lt-ltb, le-ltb}
 use lib.Dec.{ltb}
 use lib.ListN.{length}
+use Rattle.refusal.specs.Outcome.{ground, outcome}
 use Rattle.columns.specs.Columns.{columnsFit}
 use Rattle.columns.proofs.Cells.{any-bits}
 use Rattle.record.specs.Sound.{sound}
-use Rattle.table.specs.Calls.{columnGrounds}
+use Rattle.table.specs.Calls.{columnGrounds, columnOutcome}
 use Rattle.table.proofs.check_columns.Statement.{statement}
 use Rattle.table.proofs.check_columns.Tie as tie
 
@@ -25,6 +27,22 @@ long-here c = le-ltb (start (c .before) .args .work) (length (start (c .before) 
 
 fit-here : (c : tie.Else3) → columnsFit (start (c .before .before .before) .args .kind) (start (c .before .before .before) .args .keys .now) (start (c .before .before .before) .args .values .now) ≡ true
 fit-here c = sym (c .before .columns-fit .ensures) ∙ not-false (c .before .columns-fit .result) (c .if3 .left)
+
+-- with these three passed the rows decide
+last-decides : (c : tie.After-any-not-finite) → let a = start (c .before .before .before .before) .args in
+    columnOutcome (a .kind) (a .table .now) (a .g) (a .keys .now) (a .values .now) (a .work) ≡ outcome (ground 10 (c .any-not-finite .result) ∷ []) tt
+unfolding columnGrounds
+last-decides c =
+    let d = c .before in
+    let a = start (d .before .before .before) .args in
+    rw (
+      sound-here (d .before .before .before),
+      long-here (d .before .before),
+      fit-here d,
+      any-bits (a .kind) (a .keys .now) (a .values .now) (fit-here d),
+      ← c .any-not-finite .ensures,
+    )
+    refl
 
 is-sound-requires : tie.Need-is-sound-requires
 is-sound-requires c κs = search needs
@@ -52,34 +70,10 @@ any-not-finite-requires : tie.Need-any-not-finite-requires
 any-not-finite-requires c κs = search needs
 
 returns-4 : tie.Need-returns-4
-unfolding columnGrounds
-returns-4 c =
-    let d = c .before .before in
-    let a = start (d .before .before .before) .args in
-    rw (
-      sound-here (d .before .before .before),
-      long-here (d .before .before),
-      fit-here d,
-      any-bits (a .kind) (a .keys .now) (a .values .now) (fit-here d),
-      ← c .before .any-not-finite .ensures,
-      c .if4 .taken,
-    )
-    refl
+returns-4 c = sym (last-decides (c .before) ∙ rw (c .if4 .taken) refl)
 
 returns-5 : tie.Need-returns-5
-unfolding columnGrounds
-returns-5 c =
-    let d = c .before .before in
-    let a = start (d .before .before .before) .args in
-    rw (
-      sound-here (d .before .before .before),
-      long-here (d .before .before),
-      fit-here d,
-      any-bits (a .kind) (a .keys .now) (a .values .now) (fit-here d),
-      ← c .before .any-not-finite .ensures,
-      c .if4 .left,
-    )
-    refl
+returns-5 c = sym (last-decides (c .before) ∙ rw (c .if4 .left) refl)
 
 pub check-columns-spec : {M : Type 1} → statement M
 check-columns-spec =

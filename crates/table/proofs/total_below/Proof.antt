@@ -16,11 +16,11 @@ nothing-requires c κs = search needs
 returns : tie.Need-returns
 returns c = let a = c .before .before .args in rw (lt-leb (a .d) (a .t) (c .before .if1 .taken)) (c .nothing .ensures)
 
-total-at-requires : tie.Need-total-at-requires
-total-at-requires c κs = search needs
+split-in-requires : tie.Need-split-in-requires
+split-in-requires c κs = search needs
 
-total-at-requires-2 : tie.Need-total-at-requires-2
-total-at-requires-2 c κs = search needs
+split-in-requires-2 : tie.Need-split-in-requires-2
+split-in-requires-2 c κs = search needs
 
 few : (c : tie.Start) → (c .args .a .count < 2 ^ 32) × (c .args .b .count < 2 ^ 32)
 few c = search needs
@@ -31,7 +31,7 @@ add-totals-requires c κs =
     let j = s .args .t - s .args .d in
     let x = split-in-range (s .args .a) j (few s .0) (s .pre .1 .0) in
     let y = split-in-range (s .args .b) j (few s .1) (s .pre .1 .1) in
-    rw (c .before .total-at .ensures, c .total-at2 .ensures) (x .0, y .0, omega arith, omega arith)
+    rw (c .before .split-in .ensures, c .split-in2 .ensures) (x .0, y .0, omega arith, omega arith)
 
 returns-2 : tie.Need-returns-2
 returns-2 c =
@@ -39,7 +39,7 @@ returns-2 c =
     let j = s .args .t - s .args .d in
     rw (le-leb (s .args .d) (s .args .t) (omega arith))
     (c .add-totals .ensures
-    ∙ ap splitOf (ap₂ _+ℤ_ (ap totalOf (c .before .before .total-at .ensures) ∙ split-level (s .args .a) j) (ap totalOf (c .before .total-at2 .ensures) ∙ split-level (s .args .b) j)))
+    ∙ ap splitOf (ap₂ _+ℤ_ (ap totalOf (c .before .before .split-in .ensures) ∙ split-level (s .args .a) j) (ap totalOf (c .before .split-in2 .ensures) ∙ split-level (s .args .b) j)))
 
 pub total-below-spec : {M : Type 1} → statement M
 total-below-spec =
@@ -47,7 +47,7 @@ total-below-spec =
     (tie.spec
     nothing-requires
     returns
-    total-at-requires
-    total-at-requires-2
+    split-in-requires
+    split-in-requires-2
     add-totals-requires
     returns-2)

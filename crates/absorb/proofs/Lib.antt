@@ -1,0 +1,2 @@
+-- Laws of a record brought in.
+pub mod Absorbing

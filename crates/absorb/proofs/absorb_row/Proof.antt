@@ -1,0 +1,92 @@
+-- `absorb_row` brings in the section of the row that stands at i.
+use Prim.Native.Nat.{ℕ, _^_, _<_}
+use mathlib.Core.Path.{_≡_, sym, ap, ap₂, _∙_, subst}
+use native.Mathlib.Omega.{arith}
+use lib.Dec.{T}
+use borrow.Author.Needs.{needs}
+use Rattle.columns.specs.Columns.{Row, rowAt}
+use Rattle.record.specs.declared.Record.{Record}
+use Rattle.record.specs.Sound.{soundRecord}
+use Rattle.record.specs.Section.{Section, meaning, recordOf, sections}
+use Rattle.table.specs.Combine.{ofRow, absorb}
+use Rattle.table.specs.Calls.{overflows}
+use Rattle.lists.specs.Lists.{anyOf}
+use Rattle.table.proofs.Proper.{row-proper}
+use Rattle.table.proofs.Bytes.{meaning-record, sound-record}
+use Rattle.absorb.specs.Steps.{Absorbs}
+use Rattle.columns.proofs.Cells.{value-within}
+use Rattle.absorb.proofs.absorb_row.Statement.{statement}
+use Rattle.absorb.proofs.absorb_row.Tie as tie
+
+small : (c : tie.After-u32-at) → c .u32-at .result < 2 ^ 32
+small c = search needs
+
+-- where the row's record was made
+module _ (c : tie.After-row-record) where
+  abbrev start : tie.Start
+  start = c .before .before .before .before .before .before
+
+  abbrev row : Row
+  row = rowAt (start .args .kind) (start .args .keys .now) (start .args .values .now) (start .args .i)
+
+  abbrev made : Record
+  made = c .row-record .result
+
+  made-is : made ≡ recordOf (ofRow row)
+  made-is = c .row-record .ensures ∙ ap₂ (λ (x y : ℕ). recordOf (ofRow (record { key = x; bits = y }))) (c .before .before .u32-at .ensures) (c .before .value-at .ensures)
+
+  made-means : meaning made ≡ ofRow row
+  made-means = ap meaning made-is ∙ meaning-record (ofRow row)
+
+  made-sound : T (soundRecord made)
+  made-sound =
+      let h = small (c .before .before) in
+      let e = c .before .before .u32-at .ensures in
+      subst T (sym (ap soundRecord made-is ∙ sound-record (ofRow row) (row-proper row (omega arith)))) tt
+
+mul-u32-at : tie.Need-mul-u32-at
+mul-u32-at c = search needs
+
+u32-at-requires : tie.Need-u32-at-requires
+u32-at-requires c κs = search needs
+
+value-at-requires : tie.Need-value-at-requires
+value-at-requires c κs =
+    let s = c .before .before .before .before in
+    value-within (s .args .kind) (s .args .keys .now) (s .args .values .now) (s .pre .1 .1 .0 .0) (s .args .i) (s .pre .1 .1 .0 .1)
+
+row-record-requires : tie.Need-row-record-requires
+row-record-requires c κs = search needs
+
+absorb-record-requires : tie.Need-absorb-record-requires
+absorb-record-requires c κs =
+    let m = c .before in
+    let s = start m in (
+      s .pre .0,
+      (
+        s .pre .1 .0,
+        (made-sound m, ap (λ (x : Section). anyOf overflows (absorb x (sections (s .args .t .now) (s .args .g)))) (made-means m) ∙ s .pre .1 .1 .1),
+      ),
+    )
+
+same-length : tie.Need-same-length
+same-length c = search needs
+
+returns : tie.Need-returns
+returns c =
+    let a = c .before .before .absorb-record in
+    let m = c .before .before .before .before in
+    let s = start m in
+    subst (λ (x : Section). Absorbs x (s .args .room) (sections (s .args .t .now) (s .args .g)) (a .last .0) (a .result)) (made-means m) (a .ensures)
+
+pub absorb-row-spec : {M : Type 1} → statement M
+absorb-row-spec =
+    tie.close
+    (tie.spec
+    mul-u32-at
+    u32-at-requires
+    value-at-requires
+    row-record-requires
+    absorb-record-requires
+    same-length
+    returns)

@@ -1,0 +1,22 @@
+-- The longest patch files, apart from the small ones of `patch` since they take long to compute.
+use Prim.Native.Nat.{ℕ}
+use mathlib.Core.Path.{_≡_, refl}
+use mathlib.Core.List.{List, [], _∷_, map}
+use Rattle.codec.specs.Bytes.{number, bytes, numberAt}
+use Rattle.refusal.specs.Outcome.{accepted, refused}
+use Rattle.columns.specs.declared.Kind.the-variants.{Double}
+use Rattle.patch.specs.File.{marked, outside, overlap, readGrounds, readOutcome}
+use Rattle.patch.specs.Cases.{zeros, file, Example, _gives_}
+
+-- full of rows, with a row more, with a byte more, and a byte too long without a mark
+longest : List Example
+longest =
+    (file 65520 5460 65536 43696 gives accepted 5460)
+    ∷ (file 65520 5461 65536 43704 gives refused 6)
+    ∷ (file 65521 5460 65536 43696 gives refused 1)
+    ∷ (zeros 65537 gives refused 1)
+    ∷ []
+
+computed : map (λ (e : Example). readOutcome Double (e .given)) longest ≡ map (λ (e : Example). e .answer) longest
+unfolding longest number bytes numberAt marked outside overlap readGrounds readOutcome
+computed = refl

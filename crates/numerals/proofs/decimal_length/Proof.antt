@@ -1,0 +1,41 @@
+-- `numerals::width`: each iteration takes one digit off.
+use Prim.Native.Nat.{_+_, _≤_}
+use mathlib.Core.Path.{_≡_, refl}
+use native.Mathlib.Omega.{arith}
+use lib.ListN.{length}
+use Rattle.numerals.specs.Numerals.{decimal}
+use Rattle.numerals.specs.Steps.{decimalSize}
+use Rattle.numerals.proofs.Digits.{length-one, length-more}
+use Rattle.numerals.proofs.Size.{length-decimal}
+use Rattle.numerals.proofs.decimal_length.Statement.{statement}
+use Rattle.numerals.proofs.decimal_length.Tie as tie
+
+abbrev Inv-loop : tie.InvT-loop
+Inv-loop n y₀ w₀ y w = (length (decimal y) + w ≡ length (decimal n) + 1) × (length (decimal n) ≤ decimalSize)
+
+abbrev μ-loop : tie.MeasureT-loop
+μ-loop n y₀ w₀ y w = y
+
+loop-holds : tie.Need-loop-holds Inv-loop μ-loop
+loop-holds c = (refl, length-decimal (c .args .n) (omega arith))
+
+add-w : tie.Need-add-w Inv-loop μ-loop
+add-w c = omega arith
+
+loop-less : tie.Need-loop-less Inv-loop μ-loop
+loop-less c = omega arith
+
+loop-again : tie.Need-loop-again Inv-loop μ-loop
+loop-again c =
+    let i = c .before .loop .inv in
+    let m = length-more (c .before .loop .y) (c .loop-test .taken) in
+    (omega arith, i .1)
+
+returns : tie.Need-returns Inv-loop μ-loop
+returns c =
+    let i = c .before .loop .inv in
+    let m = length-one (c .before .loop .y) (omega arith) in
+    omega arith
+
+pub decimal-length-spec : {M : Type 1} → statement M
+decimal-length-spec = tie.close (tie.spec Inv-loop μ-loop loop-holds add-w loop-less loop-again returns)

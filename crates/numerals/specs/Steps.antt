@@ -1,0 +1,24 @@
+-- What the steps of printing promise each other.
+use Prim.Native.Nat.{ℕ, _+_, _≤_}
+use mathlib.Core.Path.{_≡_}
+use mathlib.Core.List.{List, _++_}
+use lib.ListN.{take}
+
+-- the buffer s held a text of at bytes, s′ holds that text and then w, r bytes in all; w is at most k bytes long
+pub record Continued (s : List ℕ) (at : ℕ) (w : List ℕ) (k : ℕ) (s′ : List ℕ) (r : ℕ) : Type 0 where
+  pub text : take r s′ ≡ take at s ++ w
+  pub room : r ≤ at + k
+
+-- ---- the most bytes that each numeral takes
+
+-- a 32-bit number in decimal
+abbrev pub decimalSize : ℕ
+decimalSize = 10
+
+-- a 32-bit whole number in decimal, its minus sign included
+abbrev pub integerSize : ℕ
+integerSize = 1 + decimalSize
+
+-- 64 bits in hexadecimal
+abbrev pub bitsSize : ℕ
+bitsSize = 16

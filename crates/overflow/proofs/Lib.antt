@@ -1,0 +1,2 @@
+-- Laws of row counts.
+pub mod Counts

@@ -1,0 +1,149 @@
+-- `find`: the number of keys below the one looked for lies between lo and lo + n, and each step halves n.
+use Prim.Native.Nat.{ℕ, _+_, _-_, _*_, _/_, _≤_, _<_, zero-le}
+use mathlib.Core.Path.{_≡_, refl, sym, _∙_}
+use mathlib.Core.List.{List}
+use mathlib.Core.Bool.{Bool, true, false, cond}
+use mathlib.Core.Logic.{_⊎_, inl, inr, ⊎-elim}
+use native.Mathlib.Omega.{arith}
+use borrow.Author.Needs.{needs}
+use borrow.Author.Tests.{ltb-true, ltb-false}
+use lib.ListN.{length, getD}
+use lib.Dec.{T, ltb}
+use Rattle.codec.specs.Bytes.{numberAt}
+use Rattle.record.specs.Layout.{records}
+use Rattle.record.specs.Keys.{keys, rising, countBelow, place}
+use Rattle.record.specs.declared.Place.the-variants.{At, Gap}
+use Rattle.record.proofs.Laws.{getD-keys, length-keys}
+use Rattle.record.proofs.Order.{below-le, below-lt, below-ge, place-at, place-gap}
+use Rattle.record.proofs.binary_search.Statement.{statement}
+use Rattle.record.proofs.binary_search.Tie as tie
+
+-- what the key at a record says of the place; v is that key as it was read
+module _ (s : List ℕ) (g key : ℕ) (pre : (g * 64 ≤ length s) × T (rising (keys (records s g)))) (i v : ℕ) (e : v ≡ numberAt 4 s (i * 64)) where
+  at : i < g → getD (keys (records s g)) i 0 ≡ v
+  at h = getD-keys s g (pre .0) i h ∙ sym e
+
+  inside : i < g → i < length (keys (records s g))
+  inside h = rw length-keys h
+
+  smaller : i < g → v < key → i < countBelow key (keys (records s g))
+  smaller h l = below-lt key (keys (records s g)) (pre .1) i (inside h) (rw (at h) l)
+
+  larger : i < g → key ≤ v → countBelow key (keys (records s g)) ≤ i
+  larger h l = below-ge key (keys (records s g)) (pre .1) i (inside h) (rw (at h) l)
+
+  found : i < g → i ≡ countBelow key (keys (records s g)) → v ≡ key → At i ≡ place key (keys (records s g))
+  found h b q = place-at key (keys (records s g)) i b (inside h) (at h ∙ q)
+
+  missing : i < g → i ≡ countBelow key (keys (records s g)) → (v ≡ key → ⊥) → Gap i ≡ place key (keys (records s g))
+  missing h b n = place-gap key (keys (records s g)) (pre .1) i b (λ l q. n (sym (at h) ∙ q))
+
+past-all : (s : List ℕ) (g key : ℕ) → T (rising (keys (records s g))) → (i : ℕ) → i ≡ countBelow key (keys (records s g)) → g ≤ i → Gap i ≡ place key (keys (records s g))
+past-all s g key up i b h = place-gap key (keys (records s g)) up i b (λ l q. omega (arith, length-keys s g))
+
+-- a step goes up by half the records, or by none
+chosen : (h v key b : ℕ) → b ≡ cond (ltb v key) 1 0 → ((v < key) × (h * b ≡ h)) ⊎ ((key ≤ v) × (h * b ≡ 0))
+chosen h v key b e = by (ltb v key) refl e
+  where
+    by : (t : Bool) → ltb v key ≡ t → b ≡ cond t 1 0 → ((v < key) × (h * b ≡ h)) ⊎ ((key ≤ v) × (h * b ≡ 0))
+    by true q e = inl (ltb-true v key q, rw e (omega arith))
+    by false q e = inr (ltb-false v key q, rw e (omega arith))
+
+abbrev Inv-loop : tie.InvT-loop
+Inv-loop t g key lo₀ n₀ lo n = (lo ≤ countBelow key (keys (records t g))) × (countBelow key (keys (records t g)) ≤ lo + n) × (lo + n ≤ g)
+
+abbrev μ-loop : tie.MeasureT-loop
+μ-loop t g key lo₀ n₀ lo n = n
+
+loop-holds : tie.Need-loop-holds Inv-loop μ-loop
+loop-holds c =
+    let a = c .before .args in
+    (zero-le, omega (arith, below-le (a .key) (keys (records (a .t .now) (a .g))), length-keys (a .t .now) (a .g)), omega arith)
+
+add-half : tie.Need-add-half Inv-loop μ-loop
+add-half c = omega arith
+
+add-u32-at : tie.Need-add-u32-at Inv-loop μ-loop
+add-u32-at c = omega arith
+
+sub-u32-at : tie.Need-sub-u32-at Inv-loop μ-loop
+sub-u32-at c = omega arith
+
+mul-u32-at : tie.Need-mul-u32-at Inv-loop μ-loop
+mul-u32-at c = omega arith
+
+u32-at-requires : tie.Need-u32-at-requires Inv-loop μ-loop
+u32-at-requires c κs = omega arith
+
+is-below-requires : tie.Need-is-below-requires Inv-loop μ-loop
+is-below-requires c κs = search needs
+
+mul-lo : tie.Need-mul-lo Inv-loop μ-loop
+mul-lo c = ⊎-elim (λ w. omega arith) (λ w. omega arith) (chosen ((c .before .before .before .loop .n + 1) / 2) (c .before .u32-at .result) (c .before .before .before .before .before .args .key) (c .is-below .result) (c .is-below .ensures))
+
+add-lo : tie.Need-add-lo Inv-loop μ-loop
+add-lo c = ⊎-elim (λ w. omega arith) (λ w. omega arith) (chosen ((c .before .before .before .loop .n + 1) / 2) (c .before .u32-at .result) (c .before .before .before .before .before .args .key) (c .is-below .result) (c .is-below .ensures))
+
+sub-n : tie.Need-sub-n Inv-loop μ-loop
+sub-n c = omega arith
+
+loop-less : tie.Need-loop-less Inv-loop μ-loop
+loop-less c = omega arith
+
+loop-again : tie.Need-loop-again Inv-loop μ-loop
+loop-again c =
+    let a = c .before .before .before .before .before in
+    let l = c .before .before .before .loop in
+    let m = l .lo + (l .n + 1) / 2 - 1 in
+    let u = c .before .u32-at in
+    ⊎-elim
+    (λ w. omega (arith, smaller (a .args .t .now) (a .args .g) (a .args .key) (a .pre) m (u .result) (u .ensures) (omega arith) (w .0)))
+    (λ w. omega (arith, larger (a .args .t .now) (a .args .g) (a .args .key) (a .pre) m (u .result) (u .ensures) (omega arith) (w .0)))
+    (chosen ((c .before .before .before .loop .n + 1) / 2) (c .before .u32-at .result) (c .before .before .before .before .before .args .key) (c .is-below .result) (c .is-below .ensures))
+
+mul-u32-at-2 : tie.Need-mul-u32-at-2 Inv-loop μ-loop
+mul-u32-at-2 c = omega arith
+
+u32-at-requires-2 : tie.Need-u32-at-requires-2 Inv-loop μ-loop
+u32-at-requires-2 c κs = omega arith
+
+returns : tie.Need-returns Inv-loop μ-loop
+returns c =
+    let a = c .before .before .before .before .before .before in
+    let u = c .before .u32-at2 in
+    found (a .args .t .now) (a .args .g) (a .args .key) (a .pre) (c .before .before .before .before .loop .lo) (u .result) (u .ensures) (omega arith) (omega arith) (c .if2 .taken)
+
+returns-2 : tie.Need-returns-2 Inv-loop μ-loop
+returns-2 c =
+    let a = c .before .before .before .before .before .before in
+    let u = c .before .u32-at2 in
+    missing (a .args .t .now) (a .args .g) (a .args .key) (a .pre) (c .before .before .before .before .loop .lo) (u .result) (u .ensures) (omega arith) (omega arith) (c .if2 .left)
+
+returns-3 : tie.Need-returns-3 Inv-loop μ-loop
+returns-3 c =
+    let a = c .before .before .before .before in
+    past-all (a .args .t .now) (a .args .g) (a .args .key) (a .pre .1) (c .before .before .loop .lo) (omega arith) (c .if1 .left)
+
+pub binary-search-spec : {M : Type 1} → statement M
+binary-search-spec =
+    tie.close
+    (tie.spec
+    Inv-loop
+    μ-loop
+    loop-holds
+    add-half
+    add-u32-at
+    sub-u32-at
+    mul-u32-at
+    u32-at-requires
+    is-below-requires
+    mul-lo
+    add-lo
+    sub-n
+    loop-less
+    loop-again
+    mul-u32-at-2
+    u32-at-requires-2
+    returns
+    returns-2
+    returns-3)

@@ -1,0 +1,121 @@
+-- `record_sound` asks each condition of soundness by itself, in the definition's order.
+use mathlib.Core.Path.{_≡_}
+use mathlib.Core.Bool.{Bool, _&&_, _||_}
+use lib.Dec.{leb, eqb}
+use Rattle.record.specs.declared.Record.{Record}
+use Rattle.record.specs.Sound.{soundTotal, isZero, soundRecord}
+use borrow.Author.Needs.{needs}
+use Rattle.soundness.proofs.record_sound.Statement.{statement}
+use Rattle.soundness.proofs.record_sound.Tie as tie
+
+both-requires : tie.Need-both-requires
+both-requires c κs = search needs
+
+both-requires-2 : tie.Need-both-requires-2
+both-requires-2 c κs = search needs
+
+total-sound-requires : tie.Need-total-sound-requires
+total-sound-requires c κs = search needs
+
+both-requires-3 : tie.Need-both-requires-3
+both-requires-3 c κs = search needs
+
+total-sound-requires-2 : tie.Need-total-sound-requires-2
+total-sound-requires-2 c κs = search needs
+
+both-requires-4 : tie.Need-both-requires-4
+both-requires-4 c κs = search needs
+
+total-sound-requires-3 : tie.Need-total-sound-requires-3
+total-sound-requires-3 c κs = search needs
+
+both-requires-5 : tie.Need-both-requires-5
+both-requires-5 c κs = search needs
+
+is-zero-requires : tie.Need-is-zero-requires
+is-zero-requires c κs = search needs
+
+either-requires : tie.Need-either-requires
+either-requires c κs = search needs
+
+both-requires-6 : tie.Need-both-requires-6
+both-requires-6 c κs = search needs
+
+is-zero-requires-2 : tie.Need-is-zero-requires-2
+is-zero-requires-2 c κs = search needs
+
+either-requires-2 : tie.Need-either-requires-2
+either-requires-2 c κs = search needs
+
+both-requires-7 : tie.Need-both-requires-7
+both-requires-7 c κs = search needs
+
+-- The tests in the code's order; each equation is asked of its own call.
+joined :
+    (r : Record) {counted head high highs middle middles low levels none free freed none′ free′ all : Bool} →
+    counted ≡ (leb 1 (r .count) && leb (r .top) 52) →
+    head ≡ counted && eqb (r .zero) 0 →
+    high ≡ soundTotal (r .count) (r .high) →
+    highs ≡ head && high →
+    middle ≡ soundTotal (r .count) (r .middle) →
+    middles ≡ highs && middle →
+    low ≡ soundTotal (r .count) (r .low) →
+    levels ≡ middles && low →
+    none ≡ isZero (r .middle) →
+    free ≡ leb 1 (r .top) || none →
+    freed ≡ levels && free →
+    none′ ≡ isZero (r .low) →
+    free′ ≡ leb 2 (r .top) || none′ →
+    all ≡ freed && free′ →
+    all ≡ soundRecord r
+unfolding soundRecord
+joined r e0 e1 e2 e3 e4 e5 e6 e7 e8 e9 e10 e11 e12 e13 = rw (e13, e10, e7, e5, e3, e1, e0, e2, e4, e6, e9, e8, e12, e11)
+
+returns : tie.Need-returns
+returns c =
+    let after-free′ = c .before in
+    let after-freed = after-free′ .before .before .before in
+    let after-free = after-freed .before in
+    let after-levels = after-free .before .before .before in
+    let after-low = after-levels .before in
+    let after-middles = after-low .before in
+    let after-middle = after-middles .before in
+    let after-highs = after-middle .before in
+    let after-high = after-highs .before in
+    let after-head = after-high .before in
+    let start = after-head .before .before .before .before in
+    joined (start .args .r)
+    (after-head .before .before .both .ensures)
+    (after-head .both2 .ensures)
+    (after-high .total-sound .ensures)
+    (after-highs .both3 .ensures)
+    (after-middle .total-sound2 .ensures)
+    (after-middles .both4 .ensures)
+    (after-low .total-sound3 .ensures)
+    (after-levels .both5 .ensures)
+    (after-free .before .is-zero .ensures)
+    (after-free .either .ensures)
+    (after-freed .both6 .ensures)
+    (after-free′ .before .is-zero2 .ensures)
+    (after-free′ .either2 .ensures)
+    (c .both7 .ensures)
+
+pub record-sound-spec : {M : Type 1} → statement M
+record-sound-spec =
+    tie.close
+    (tie.spec
+    both-requires
+    both-requires-2
+    total-sound-requires
+    both-requires-3
+    total-sound-requires-2
+    both-requires-4
+    total-sound-requires-3
+    both-requires-5
+    is-zero-requires
+    either-requires
+    both-requires-6
+    is-zero-requires-2
+    either-requires-2
+    both-requires-7
+    returns)

@@ -1,0 +1,70 @@
+use Prim.Native.Nat.{_^_}
+use mathlib.Core.Path.{refl, _∙_}
+use mathlib.Core.Bool.{false}
+use native.Mathlib.Omega.{arith}
+use borrow.Author.Tests.{lt-ltb, le-ltb}
+use mir.Syntax.{w64}
+use mir.Val.{ofZ, SFits}
+use Rattle.codec.proofs.Laws.{turned, low-half, sign-known}
+use Rattle.record.specs.Sound.{soundTotal}
+use Rattle.soundness.proofs.Tests.{size-negative, size-positive}
+use borrow.Author.Needs.{needs}
+use Rattle.soundness.proofs.total_sound.Statement.{statement}
+use Rattle.soundness.proofs.total_sound.Tie as tie
+
+in-range : (c : tie.Start) → SFits w64 (c .args .x .carry)
+in-range c = search needs
+
+cast-at-most : tie.Need-cast-at-most
+cast-at-most c =
+    let l = turned (c .before .before .before .args .x .carry) (in-range (c .before .before .before)) (c .if2 .taken) in
+    (l .0, omega (arith, l .1))
+
+sub-at-most : tie.Need-sub-at-most
+sub-at-most c = search needs
+
+at-most-requires : tie.Need-at-most-requires
+at-most-requires c κs = search needs
+
+returns : tie.Need-returns
+unfolding soundTotal
+returns c =
+    let a = c .before .before .before .before in
+    let x = a .args .x in
+    let e = size-negative (x .carry) (x .residue) (in-range a) (c .before .before .if1 .taken) (c .before .if2 .taken) in
+    c .at-most .ensures ∙ rw (lt-ltb (x .residue) (2 ^ 50) (c .before .before .if1 .taken), e) refl
+
+cast-at-most-2 : tie.Need-cast-at-most-2
+cast-at-most-2 c =
+    let x = c .before .before .before .args .x in
+    let h = sign-known (x .carry) (in-range (c .before .before .before)) false (c .if2 .left) in
+    let l = low-half (ofZ w64 (x .carry)) h in
+    (l .0, omega (arith, l .1))
+
+at-most-requires-2 : tie.Need-at-most-requires-2
+at-most-requires-2 c κs = search needs
+
+returns-2 : tie.Need-returns-2
+unfolding soundTotal
+returns-2 c =
+    let a = c .before .before .before .before in
+    let x = a .args .x in
+    let e = size-positive (x .carry) (x .residue) (in-range a) (c .before .if2 .left) in
+    c .at-most2 .ensures ∙ rw (lt-ltb (x .residue) (2 ^ 50) (c .before .before .if1 .taken), e) refl
+
+returns-3 : tie.Need-returns-3
+unfolding soundTotal
+returns-3 c = rw (le-ltb (c .before .before .args .x .residue) (2 ^ 50) (c .if1 .left))
+
+pub total-sound-spec : {M : Type 1} → statement M
+total-sound-spec =
+    tie.close
+    (tie.spec
+    cast-at-most
+    sub-at-most
+    at-most-requires
+    returns
+    cast-at-most-2
+    at-most-requires-2
+    returns-2
+    returns-3)
