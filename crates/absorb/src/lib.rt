@@ -7,7 +7,7 @@ ghost use lib.ListN.{length};
 ghost use Rattle.lists.specs.Lists.{anyOf};
 ghost use Rattle.columns.specs.Columns.{columnRows, columnsFit, rowAt};
 ghost use Rattle.record.specs.Layout.{recordAt, records, capacity};
-ghost use Rattle.record.specs.Keys.{keys as keysOf, rising, place};
+ghost use Rattle.record.specs.Keys.{recordKeys, rising, place};
 ghost use Rattle.record.specs.Sound.{sound, soundRecord};
 ghost use Rattle.record.specs.Section.{sections, meaning, recordOf};
 ghost use Rattle.table.specs.Combine.{ofRow, combine, absorb};
@@ -19,8 +19,8 @@ use record::Record;
 
 // The place of a key; rows come in runs of one section, so the last place is tried first.
 fn locate(t: &[u8], g: usize, last: usize, key: u32) -> Place
-    requires { ⌜ (g * 64 ≤ length (now t)) × T (rising (keysOf (records (now t) g))) ⌝ }
-    ensures { λ r. ⌜ r ≡ place key (keysOf (records (now (t .entry)) g)) ⌝ }
+    requires { ⌜ (g * 64 ≤ length (now t)) × T (rising (recordKeys (records (now t) g))) ⌝ }
+    ensures { λ r. ⌜ r ≡ place key (recordKeys (records (now (t .entry)) g)) ⌝ }
 {
     if last < g {
         if codec::u32_at(t, last * 64) == key {

@@ -3,7 +3,8 @@ use Prim.Native.Nat.{ℕ, _^_}
 use mathlib.Core.List.{List, [], _∷_, map}
 use mathlib.Core.Option.{Option, none, some}
 use lib.IntN.{ℤ, pos, negsuc, negℤ}
-use lib.Ieee.{Float, binary64, add, ofBits, toBits}
+use lib.Ieee as ieee
+use lib.Ieee.{Float, binary64, ofBits, toBits}
 use Rattle.refusal.specs.Outcome.{Outcome, accepted, refused}
 use Rattle.level.specs.Carry.{carryOf, residueOf}
 use Rattle.record.specs.Section.{Section, find}
@@ -15,7 +16,7 @@ pub data BenchFigure : Type 0 where
   -- the top and the three totals
   totals : ℕ → ℤ → ℤ → ℤ → BenchFigure
   -- the top and the first total
-  first : ℕ → ℤ → BenchFigure
+  firstTotal : ℕ → ℤ → BenchFigure
   -- the first residue and carry
   split : ℕ → ℤ → BenchFigure
   -- the sum's 64 bits, or its refusal
@@ -44,7 +45,7 @@ sumBits (refused n) = refused n
 -- doubles added from left to right
 unfoldable pub addedUp : Float → List ℕ → Float
 addedUp x [] = x
-addedUp x (b ∷ bs) = addedUp (add binary64 x (ofBits binary64 b)) bs
+addedUp x (b ∷ bs) = addedUp (ieee.add binary64 x (ofBits binary64 b)) bs
 
 -- a section that is there; its row count is 0 where it is not
 abbrev pub there : Option Section → Section
@@ -54,7 +55,7 @@ there (some s) = s
 -- the figure of the same kind that a section has
 abbrev pub of : Option Section → List ℕ → BenchFigure → BenchFigure
 of o bs (totals a b c d) = totals (there o .top) (there o .high) (there o .middle) (there o .low)
-of o bs (first a b) = first (there o .top) (there o .high)
+of o bs (firstTotal a b) = firstTotal (there o .top) (there o .high)
 of o bs (split a b) = split (residueOf (there o .high)) (carryOf (there o .high))
 of o bs (sum a) = sum (sumBits (sumOf o))
 of o bs (mill a) = mill (figureOf o)
@@ -67,8 +68,8 @@ computed c = of (section (c .bits)) (c .bits) (c .figure)
 -- ---- the figures
 
 -- the double 1
-abbrev one : ℕ
-one = 0x3FF0000000000000
+abbrev double1 : ℕ
+double1 = 0x3FF0000000000000
 
 -- rows by their bits, and a figure of them
 abbrev entry : List ℕ → BenchFigure → Case
@@ -78,14 +79,14 @@ entry bs f = record { bits = bs; figure = f }
 abbrev pub benchFigures : List Case
 benchFigures =
     -- B1: 1; B2: -1; B3: 31.5; B4: 32; B5: 96
-    entry (one ∷ []) (totals 26 (pos (2 ^ 34)) (pos 0) (pos 0))
+    entry (double1 ∷ []) (totals 26 (pos (2 ^ 34)) (pos 0) (pos 0))
     ∷ entry (0xBFF0000000000000 ∷ []) (split 1125882726973440 (negsuc 0))
-    ∷ entry (0x403F800000000000 ∷ []) (first 26 (pos 541165879296))
+    ∷ entry (0x403F800000000000 ∷ []) (firstTotal 26 (pos 541165879296))
     ∷ entry (0x4040000000000000 ∷ []) (totals 27 (pos 0) (pos (2 ^ 39)) (pos 0))
     ∷ entry (0x4058000000000000 ∷ []) (totals 27 (pos 2) (negℤ (pos (2 ^ 39))) (pos 0))
     -- B6: bits 1, and bits 0000007FFFFFFFFF; B7: bits 0000008000000000
     ∷ entry (0x0000000000000001 ∷ []) (totals 0 (pos 1) (pos 0) (pos 0))
-    ∷ entry (0x0000007FFFFFFFFF ∷ []) (first 0 (pos 549755813887))
+    ∷ entry (0x0000007FFFFFFFFF ∷ []) (firstTotal 0 (pos 549755813887))
     ∷ entry (0x0000008000000000 ∷ []) (totals 1 (pos 0) (pos (2 ^ 39)) (pos 0))
     -- B8: both zeros
     ∷ entry (0x0000000000000000 ∷ 0x8000000000000000 ∷ []) (sum (accepted 0))
@@ -95,7 +96,7 @@ benchFigures =
     ∷ entry (0x3FEFFFFFFFFFFFFF ∷ 0x3CB0000000000000 ∷ 0x3CB0000000000000 ∷ []) (sum (accepted 0x3FF0000000000002))
     ∷ entry (0x3CB0000000000000 ∷ 0x3FEFFFFFFFFFFFFF ∷ 0x3CB0000000000000 ∷ []) (leftToRight 0x3FF0000000000001)
     -- B10: 2^60, 1, -2^60; and 2^-35 for 1
-    ∷ entry (0x43B0000000000000 ∷ one ∷ 0xC3B0000000000000 ∷ []) (sum (accepted one))
+    ∷ entry (0x43B0000000000000 ∷ double1 ∷ 0xC3B0000000000000 ∷ []) (sum (accepted double1))
     ∷ entry (0x43B0000000000000 ∷ 0x3DC0000000000000 ∷ 0xC3B0000000000000 ∷ []) (sum (accepted 0))
     -- B11: the largest double once, and twice
     ∷ entry (0x7FEFFFFFFFFFFFFF ∷ []) (sum (accepted 0x7FEFFFFFFFFFFFFF))

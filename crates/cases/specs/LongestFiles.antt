@@ -17,6 +17,6 @@ longest =
     ∷ (zeros 65537 gives refused 1)
     ∷ []
 
-computed : map (λ (e : Example). readOutcome Double (e .given)) longest ≡ map (λ (e : Example). e .answer) longest
+computed : map (λ (e : Example). readOutcome Double (e .input)) longest ≡ map (λ (e : Example). e .expected) longest
 unfolding longest number bytes numberAt marked outside overlap readGrounds readOutcome
 computed = refl

@@ -9,17 +9,17 @@ use Rattle.codec.specs.Bytes.{number, bytes, numberAt}
 use Rattle.codec.specs.Cells.{cells}
 
 -- the low byte comes first
-written : bytes 4 0x01020304 ≡ 4 ∷ 3 ∷ 2 ∷ 1 ∷ []
+low-byte-first : bytes 4 0x01020304 ≡ 4 ∷ 3 ∷ 2 ∷ 1 ∷ []
 unfolding bytes
-written = refl
+low-byte-first = refl
 
-read : numberAt 2 (9 ∷ 0x34 ∷ 0x12 ∷ 9 ∷ []) 1 ≡ 0x1234
+read-back : numberAt 2 (9 ∷ 0x34 ∷ 0x12 ∷ 9 ∷ []) 1 ≡ 0x1234
 unfolding number numberAt
-read = refl
+read-back = refl
 
-columns : cells 2 number 2 (1 ∷ 0 ∷ 2 ∷ 1 ∷ []) ≡ 1 ∷ 258 ∷ []
+cells-read : cells 2 number 2 (1 ∷ 0 ∷ 2 ∷ 1 ∷ []) ≡ 1 ∷ 258 ∷ []
 unfolding number cells
-columns = refl
+cells-read = refl
 
 -- -1 has all bits set
 minus-one : (ofZ w64 (negsuc 0) ≡ 2 ^ 64 - 1) × (toZ w64 (2 ^ 64 - 1) ≡ negsuc 0)

@@ -7,11 +7,11 @@ use lib.ListN.{length}
 use denote.Ref.{now}
 use Rattle.refusal.specs.Outcome.{Outcome, accepted}
 use Rattle.columns.specs.declared.Kind.the-variants.{Double}
-use Rattle.patch.specs.File.{readOutcome, columnStart, keyDistance, valueDistance, placeAfter}
+use Rattle.patch.specs.File.{readOutcome, columnStart, keyDistance, valueDistance, addressAfter}
 use Rattle.conformance.specs.Parts.{Parts}
 
 -- a column that starts past the front does not stand at the front's place
-apart : (o : Outcome ℕ) (d : ℕ) (f : List ℕ) (p : ℕ × ℕ) → o ≡ accepted 0 → d < length f → placeAfter p (columnStart o d f) ≡ p → ⊥
+apart : (o : Outcome ℕ) (d : ℕ) (f : List ℕ) (p : ℕ × ℕ) → o ≡ accepted 0 → d < length f → addressAfter p (columnStart o d f) ≡ p → ⊥
 unfolding columnStart
 apart o d f p r h q =
     let e : columnStart o d f ≡ length f - d = ap (λ (x : Outcome ℕ). columnStart x d f) r in

@@ -34,7 +34,7 @@ StepsTo s c x s′ = (answer s c ≡ x) × (step s c ≡ s′)
 
 -- table t is lent: its bytes b, and its group count g
 abbrev pub Lent : Store → List ℕ → ℕ → Type 0
-Lent t b g = (t .bytes ≡ b) × (t .groups ≡ g)
+Lent t b g = (t .buffer ≡ b) × (t .groups ≡ g)
 
 -- the state after a call that returns o and leaves the bytes b in table i
 abbrev pub stateLeft : State → ℕ → Outcome ℕ → List ℕ → State

@@ -71,7 +71,7 @@ pub extern "C" fn girth_add(
     work: &mut [u8],
 ) -> i64
     ensures answer { λ r. ⌜ r ≡ returnsCount (addOutcome Double (now (table .entry)) g (now (keys .entry)) (now (values .entry)) (length (now (work .entry)))) ⌝ }
-    ensures bytes { λ _. ⌜ now (table .exit) ≡ addLeaves Double (now (table .entry)) g (now (keys .entry)) (now (values .entry)) (length (now (work .entry))) ⌝ }
+    ensures content { λ _. ⌜ now (table .exit) ≡ addLeaves Double (now (table .entry)) g (now (keys .entry)) (now (values .entry)) (length (now (work .entry))) ⌝ }
     ensures work { λ _. ⌜ now (work .exit) ≡ cleared (now (work .entry)) ⌝ }
 {
     groups_or_minus(add::add(table, g as usize, keys, values, work))
@@ -81,7 +81,7 @@ pub extern "C" fn girth_add(
 #[no_mangle]
 pub extern "C" fn girth_merge(first: &mut [u8], g1: u64, second: &[u8], g2: u64) -> i64
     ensures answer { λ r. ⌜ r ≡ returnsCount (mergeOutcome (now (first .entry)) g1 (now (second .entry)) g2) ⌝ }
-    ensures bytes { λ _. ⌜ now (first .exit) ≡ mergeLeaves (now (first .entry)) g1 (now (second .entry)) g2 ⌝ }
+    ensures content { λ _. ⌜ now (first .exit) ≡ mergeLeaves (now (first .entry)) g1 (now (second .entry)) g2 ⌝ }
 {
     groups_or_minus(merge::merge(first, g1 as usize, second, g2 as usize))
 }
@@ -153,7 +153,7 @@ pub extern "C" fn girth_line(
 #[no_mangle]
 pub extern "C" fn girth_report(file: &[u8], out: &mut [u8]) -> i64
     ensures answer { λ r. ⌜ r ≡ returnsCount (printOutcome (now (out .entry)) (reportText (now (file .entry)))) ⌝ }
-    ensures bytes { λ _. ⌜ now (out .exit) ≡ printLeaves (now (out .entry)) (reportText (now (file .entry))) ⌝ }
+    ensures content { λ _. ⌜ now (out .exit) ≡ printLeaves (now (out .entry)) (reportText (now (file .entry))) ⌝ }
 {
     match report::report(file, out) {
         Printed::Length(n) => n as i64,

@@ -66,4 +66,4 @@ figure-within x f h =
 pub nearest-figure : (x : Float) → T (fits binary64 x) → T (finite x) → HalfUp (value (toBits binary64 x)) (millFigure x)
 nearest-figure x f h =
     let v = value (toBits binary64 x) *ℤ pos 100 in
-    record { near = λ w. near-at (2 ^ 1074) v (millFigure x) w (figure-within x f h); larger = λ w e. up-at (2 ^ 1074) v (millFigure x) w (figure-within x f h) e }
+    record { near = λ w. near-at (2 ^ 1074) v (millFigure x) w (figure-within x f h); half-up = λ w e. up-at (2 ^ 1074) v (millFigure x) w (figure-within x f h) e }

@@ -211,7 +211,7 @@ nearest-double k e =
     let d : natAbs (k -ℤ value b) ≡ natAbs (signed s n -ℤ signed s (significandOf n * 2 ^ droppedDigits n)) = ap₂ (λ (x y : ℤ). natAbs (x -ℤ y)) (size-sign k) v in
     let f : (c : ℕ) → natAbs (signed s n -ℤ value c) ≡ natAbs (k -ℤ value c) = λ c. ap (λ (x : ℤ). natAbs (x -ℤ value c)) (sym (size-sign k)) in
     record {
-      finite = bits-finite s n h;
+      is-finite = bits-finite s n h;
       near = λ c g. le-trans (le-of-eq d) (le-trans (near-signed s n (negative c) (significand c) (exponentField c - 1) (significand-lt c)) (le-of-eq (f c)));
       even = λ c g o q. bits-even s n h (even-signed s n (negative c) (significand c) (exponentField c - 1) (significand-lt c) (λ r. o (r ∙ sym v)) (sym d ∙ q ∙ sym (f c)));
     }

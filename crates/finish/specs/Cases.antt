@@ -21,24 +21,24 @@ use Rattle.finish.specs.Finish.{sumOf, figureOf, lineOutcome}
 use Rattle.finish.specs.declared.FinishedLine.{FinishedLine}
 
 -- the section of these rows
-section : List ℕ → Section
-section bs = sectionAt 1 (length bs) (topOf bs) (total bs)
+sectionOfRows : List ℕ → Section
+sectionOfRows bs = sectionAt 1 (length bs) (topOf bs) (total bs)
 
 -- the sum of the section of these rows
 sumOfRows : List ℕ → Outcome Float
-sumOfRows bs = sumOf (some (section bs))
+sumOfRows bs = sumOf (some (sectionOfRows bs))
 
 -- the mill figure of the section of this row
 figureOfRow : ℕ → Outcome ℤ
-figureOfRow b = figureOf (some (section (b ∷ [])))
+figureOfRow b = figureOf (some (sectionOfRows (b ∷ [])))
 
 -- the sum with these bits
 double : ℕ → Outcome Float
 double b = accepted (ofBits binary64 b)
 
 -- subnormals; a tie down, up and just passed, on either side of 0; the bound of 14 and one unit of the lowest level below it, on either side
-rows : List (List ℕ)
-rows =
+rowSets : List (List ℕ)
+rowSets =
     (1 ∷ 2 ∷ []) ∷ (0x000FFFFFFFFFFFFF ∷ 1 ∷ []) ∷ (0x8000000000000001 ∷ 0x8000000000000002 ∷ [])
     ∷ (0x3FF0000000000000 ∷ 0x3CA0000000000000 ∷ [])
     ∷ (0x3FF0000000000001 ∷ 0x3CA0000000000000 ∷ [])
@@ -72,27 +72,27 @@ figureRows =
     ∷ []
 
 -- a figure that is not negative
-plus : ℕ → Outcome ℤ
-plus n = accepted (pos n)
+natural : ℕ → Outcome ℤ
+natural n = accepted (pos n)
 
 -- a negative one
-minus : ℕ → Outcome ℤ
-minus n = accepted (negℤ (pos n))
+negated : ℕ → Outcome ℤ
+negated n = accepted (negℤ (pos n))
 
 -- their figures
 figures : List (Outcome ℤ)
 figures =
-    plus 38 ∷ minus 37 ∷ plus 150
-    ∷ plus 0 ∷ plus 1 ∷ plus 0 ∷ minus 1
-    ∷ plus 2147483647 ∷ refused 15 ∷ minus 2147483647 ∷ refused 15
-    ∷ plus 2147483647 ∷ minus 2147483647
+    natural 38 ∷ negated 37 ∷ natural 150
+    ∷ natural 0 ∷ natural 1 ∷ natural 0 ∷ negated 1
+    ∷ natural 2147483647 ∷ refused 15 ∷ negated 2147483647 ∷ refused 15
+    ∷ natural 2147483647 ∷ negated 2147483647
     ∷ refused 15 ∷ refused 15
-    ∷ plus 0 ∷ plus 0
+    ∷ natural 0 ∷ natural 0
     ∷ []
 
 -- the one claim
-cases : (map sumOfRows rows ≡ sums) × (map figureOfRow figureRows ≡ figures)
-unfolding section sumOfRows figureOfRow rows sums figureRows figures double plus minus top contribution topOf total kept nearestDouble tooLarge millFigure beyond round ofBits
+cases : (map sumOfRows rowSets ≡ sums) × (map figureOfRow figureRows ≡ figures)
+unfolding sectionOfRows sumOfRows figureOfRow rowSets sums figureRows figures double natural negated top contribution topOf total kept nearestDouble tooLarge millFigure beyond round ofBits
 cases = (refl, refl)
 
 -- at the bound of 14, and one unit of 2^-1074 below it
@@ -103,14 +103,14 @@ bound = (refl, refl)
 
 -- in a table of one record, of section 7 with the row 1.5: its line; a section that is absent; more records than there are bytes; document 01's
 -- examples of 13 and 7
-table : List ℕ
-table = sectionBytes (record { key = 7; count = 1; top = 26; high = pos (3 * 2 ^ 33); middle = pos 0; low = pos 0 } ∷ [])
+oneSection : List ℕ
+oneSection = sectionBytes (record { key = 7; count = 1; top = 26; high = pos (3 * 2 ^ 33); middle = pos 0; low = pos 0 } ∷ [])
 
 -- what finishing gives there
 lines : List (Outcome FinishedLine)
-lines = lineOutcome table 1 7 ∷ lineOutcome table 1 8 ∷ lineOutcome table 2 7 ∷ lineOutcome [] 0 5 ∷ lineOutcome [] 1 5 ∷ []
+lines = lineOutcome oneSection 1 7 ∷ lineOutcome oneSection 1 8 ∷ lineOutcome oneSection 2 7 ∷ lineOutcome [] 0 5 ∷ lineOutcome [] 1 5 ∷ []
 
 -- and what document 01 says
 lines-right : lines ≡ accepted (record { key = 7; count = 1; sum = ofBits binary64 0x3FF8000000000000; figure = pos 150 }) ∷ refused 13 ∷ refused 7 ∷ refused 13 ∷ refused 7 ∷ []
-unfolding table lines find kept nearestDouble tooLarge millFigure beyond round ofBits sound soundRecords soundRecord soundTotal isZero rising cells image decode encode bytes numberAt number
+unfolding oneSection lines find kept nearestDouble tooLarge millFigure beyond round ofBits sound soundRecords soundRecord soundTotal isZero rising cells image decode encode bytes numberAt number
 lines-right = refl

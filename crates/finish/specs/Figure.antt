@@ -25,4 +25,4 @@ beyond z = ltb 2147483647 (natAbs z)
 -- where another one is as near, z is the larger
 pub record HalfUp (v z : ℤ) : Type 0 where
   pub near : (w : ℤ) → natAbs (v *ℤ pos 100 -ℤ z *ℤ pos (2 ^ 1074)) ≤ natAbs (v *ℤ pos 100 -ℤ w *ℤ pos (2 ^ 1074))
-  pub larger : (w : ℤ) → natAbs (v *ℤ pos 100 -ℤ z *ℤ pos (2 ^ 1074)) ≡ natAbs (v *ℤ pos 100 -ℤ w *ℤ pos (2 ^ 1074)) → w ≤ℤ z
+  pub half-up : (w : ℤ) → natAbs (v *ℤ pos 100 -ℤ z *ℤ pos (2 ^ 1074)) ≡ natAbs (v *ℤ pos 100 -ℤ w *ℤ pos (2 ^ 1074)) → w ≤ℤ z

@@ -131,7 +131,7 @@ fn nearest_hundredths(m: u64, r: u64, negative: bool) -> u64
         return 0;
     }
     let n = m * 100;
-    limbs::round(
+    limbs::round_by(
         n >> r,
         level::last_digits(n, r),
         level::power(r - 1),

@@ -11,7 +11,7 @@ use Rattle.refusal.proofs.Outcomes.{not-given}
 use Rattle.columns.specs.Columns.{Row}
 use Rattle.lists.specs.Lists.{anyOf}
 use Rattle.lists.proofs.All.{All}
-use Rattle.history.specs.Calls.{Call, add, merge, ask, lendsBytes, addRowsGrounds, mergeRowsGrounds, Ledger, noRows, put, setRows, stepRows, ledgerAfter}
+use Rattle.history.specs.Calls.{Call, add, merge, ask, lendsBytes, addRowsGrounds, mergeRowsGrounds, Ledger, noRows, update, setRows, stepRows, ledgerAfter}
 use Rattle.history.specs.Run.{Store, State, noGroups, setTable, step, stateAfter, groupsAre, answer, answers, answerRows, answersRows, refuses}
 use Rattle.history.proofs.Questions.{ask-is, ask-not-7}
 use Rattle.history.proofs.Tables.{HoldsRows, holds-none, sound-is, add-outcome, add-holds, merge-outcome, merge-holds}
@@ -32,7 +32,7 @@ module _ (start : ℕ → List ℕ) where
       → Agrees start (setTable i t s) (setRows i rows l)
   agrees-set s l a i t rows h = record { tables = λ j. go j (ℕ-discrete j i) }
     where
-      go : (j : ℕ) → Dec (j ≡ i) → HoldsRows (start j) (put i t (s .tables) j) (put i rows (l .rows) j)
+      go : (j : ℕ) → Dec (j ≡ i) → HoldsRows (start j) (update i t (s .tables) j) (update i rows (l .rows) j)
       go j (yes e) = rw (eq-eqb j i e, e) h
       go j (no e) = rw (ne-eqb j i e) (a .tables j)
 

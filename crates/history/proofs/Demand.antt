@@ -44,20 +44,20 @@ module _ (h : History) where
   lent-is = any-false (λ (c : Call). not (lendsBytes c)) (h .calls) (h .lent)
 
   answered-is : answers (empty h) (h .calls) ≡ answersRows (lengths h) noRows (h .calls)
-  answered-is = answers-are (h .start) (empty h) noRows (agrees-none (h .start)) (h .calls) lent-is
+  answered-is = answers-are (h .initial) (empty h) noRows (agrees-none (h .initial)) (h .calls) lent-is
 
   module _ (i : ℕ) where
-    holds-is : HoldsRows (h .start i) (table h i) (rows h i)
-    holds-is = agrees-after (h .start) (empty h) noRows (agrees-none (h .start)) (h .calls) lent-is .tables i
+    holds-is : HoldsRows (h .initial i) (table h i) (rows h i)
+    holds-is = agrees-after (h .initial) (empty h) noRows (agrees-none (h .initial)) (h .calls) lent-is .tables i
 
-    table-sound : sound (table h i .bytes) (table h i .groups) ≡ true
-    table-sound = sound-is (h .start i) (table h i) (rows h i) holds-is
+    table-sound : sound (table h i .buffer) (table h i .groups) ≡ true
+    table-sound = sound-is (h .initial i) (table h i) (rows h i) holds-is
 
     used-are : used (table h i) ≡ sectionBytes (canonical (rows h i))
     used-are =
         let n = 64 * length (canonical (rows h i)) in
-        ap₂ (λ (g : ℕ) (s : List ℕ). take (64 * g) s) (holds-is .groups) (holds-is .bytes)
-        ∙ take-at (sectionBytes (canonical (rows h i))) (drop n (h .start i)) n (length-sectionBytes (canonical (rows h i)))
+        ap₂ (λ (g : ℕ) (s : List ℕ). take (64 * g) s) (holds-is .groups) (holds-is .buffer)
+        ∙ take-at (sectionBytes (canonical (rows h i))) (drop n (h .initial i)) n (length-sectionBytes (canonical (rows h i)))
 
     found-is : (k : ℕ) → find k (sectionsIn (table h i)) ≡ sectionIf k (sectionBits k (rows h i))
     found-is k = ap (find k) (holds-is .holds) ∙ find-canonical k (rows h i)
@@ -72,7 +72,7 @@ alike F G same is h h′ i j e = is h i ∙ same (rows h i) (rows h′ j) e ∙ 
 
 pub demand3 : Demand3
 demand3 = record {
-  fixed = λ h i. λ x. record { bytes = holds-is h i .bytes x; groups = holds-is h i .groups x };
+  fixed = λ h i. λ x. record { buffer = holds-is h i .buffer x; groups = holds-is h i .groups x };
   always-sound = table-sound;
   answered = answered-is;
   never-7 = λ h. ap (anyOf (refuses 7)) (answered-is h) ∙ answers-not-7 (lengths h) noRows (h .calls);

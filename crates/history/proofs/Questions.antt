@@ -20,8 +20,8 @@ use Rattle.history.proofs.Canonical.{find-canonical}
 use Rattle.history.proofs.Order.{section-same}
 
 -- ---- in a sound table with the sections of some rows
-module _ (t : Store) (rows : List Row) (h : sound (t .bytes) (t .groups) ≡ true) (e : sections (t .bytes) (t .groups) ≡ canonical rows) where
-  finishing-is : {A : Type 0} (F : Option Section → Outcome A) (k : ℕ) → finishing F (t .bytes) (t .groups) k ≡ F (sectionIf k (sectionBits k rows))
+module _ (t : Store) (rows : List Row) (h : sound (t .buffer) (t .groups) ≡ true) (e : sections (t .buffer) (t .groups) ≡ canonical rows) where
+  finishing-is : {A : Type 0} (F : Option Section → Outcome A) (k : ℕ) → finishing F (t .buffer) (t .groups) k ≡ F (sectionIf k (sectionBits k rows))
   finishing-is F k = rw (h, e, find-canonical k rows)
 
   pub ask-is : (q : Question) → askTable t q ≡ askRows rows q

@@ -52,15 +52,15 @@ longer rows new = subst (λ (ts : List Section). length (canonical rows) ≤ len
 
 -- the table t, in a buffer that held the bytes `start`, holds these rows
 pub record HoldsRows (start : List ℕ) (t : Store) (rows : List Row) : Type 0 where
-  pub table : ProperTable (t .bytes) (t .groups)
-  pub holds : sections (t .bytes) (t .groups) ≡ canonical rows
+  pub table : ProperTable (t .buffer) (t .groups)
+  pub holds : sections (t .buffer) (t .groups) ≡ canonical rows
   pub groups : t .groups ≡ length (canonical rows)
-  pub bytes : t .bytes ≡ written (canonical rows) start
-  pub size : length (t .bytes) ≡ length start
+  pub buffer : t .buffer ≡ written (canonical rows) start
+  pub size : length (t .buffer) ≡ length start
 
-pub holds-none : (start : List ℕ) → HoldsRows start (record { bytes = start; groups = 0 }) []
+pub holds-none : (start : List ℕ) → HoldsRows start (record { buffer = start; groups = 0 }) []
 unfolding canonical sectionNumbers image cells
-holds-none start = record { table = proper-none start; holds = refl; groups = refl; bytes = refl; size = refl }
+holds-none start = record { table = proper-none start; holds = refl; groups = refl; buffer = refl; size = refl }
 
 pub are-bytes : (s : List ℕ) → areBytes s ≡ true → AreBytes s
 are-bytes [] e i = omega arith
@@ -68,26 +68,26 @@ are-bytes (b ∷ bs) e zero = ltb-true b 256 (both-true (ltb b 256) (areBytes bs
 are-bytes (b ∷ bs) e (suc i) = are-bytes bs (both-true (ltb b 256) (areBytes bs) e .1) i
 
 module _ (start : List ℕ) (t : Store) (rows : List Row) (h : HoldsRows start t rows) where
-  pub sound-is : sound (t .bytes) (t .groups) ≡ true
-  sound-is = is-true (sound (t .bytes) (t .groups)) (h .table .is-sound)
+  pub sound-is : sound (t .buffer) (t .groups) ≡ true
+  sound-is = is-true (sound (t .buffer) (t .groups)) (h .table .is-sound)
 
   -- a call that would give it the sections of its rows and of new ones: accepted it holds all of them, refused what it held
   after-holds : (new : List Row) (ts : List Section) → ts ≡ canonical (rows ++ new) → (o : Outcome ℕ)
-      → ((n : ℕ) → o ≡ accepted n → Left (t .bytes) ts (leaves o ts (t .bytes)) n)
-      → HoldsRows start (after o (leaves o ts (t .bytes)) (t .groups)) (extended o rows new)
+      → ((n : ℕ) → o ≡ accepted n → Left (t .buffer) ts (leaves o ts (t .buffer)) n)
+      → HoldsRows start (after o (leaves o ts (t .buffer)) (t .groups)) (extended o rows new)
   after-holds new ts e (accepted n) f =
       let l = f n refl in
       record {
         table = l .table;
         holds = l .holds ∙ e;
         groups = sym (l .groups) ∙ ap length e;
-        bytes = ap₂ written e (h .bytes) ∙ written-over (canonical rows) (canonical (rows ++ new)) start (longer rows new);
+        buffer = ap₂ written e (h .buffer) ∙ written-over (canonical rows) (canonical (rows ++ new)) start (longer rows new);
         size = l .size ∙ h .size;
       }
   after-holds new ts e (refused n) f = h
 
   module _ (kind : Kind) (ks vs : List ℕ) (work : ℕ) where
-    pub add-outcome : addOutcome kind (t .bytes) (t .groups) ks vs work ≡ addRowsOutcome kind (length start) rows ks vs work
+    pub add-outcome : addOutcome kind (t .buffer) (t .groups) ks vs work ≡ addRowsOutcome kind (length start) rows ks vs work
     unfolding addGrounds columnGrounds addRowsGrounds
     add-outcome =
         rw (
@@ -104,18 +104,18 @@ module _ (start : List ℕ) (t : Store) (rows : List Row) (h : HoldsRows start t
         → HoldsRows start (afterAdd kind t ks vs work) (extended (addRowsOutcome kind (length start) rows ks vs work) rows (rowsOf kind ks vs))
     add-holds b =
         subst (λ (o : Outcome ℕ). HoldsRows start (afterAdd kind t ks vs work) (extended o rows (rowsOf kind ks vs))) add-outcome
-        (after-holds (rowsOf kind ks vs) (addSections kind (t .bytes) (t .groups) ks vs)
+        (after-holds (rowsOf kind ks vs) (addSections kind (t .buffer) (t .groups) ks vs)
         (ap (λ (ts : List Section). added ts (rowsOf kind ks vs)) (h .holds) ∙ added-canonical rows (rowsOf kind ks vs))
-        (addOutcome kind (t .bytes) (t .groups) ks vs work)
-        (λ n. add-left (t .bytes) (t .groups) (h .table) kind ks vs work (are-bytes ks (both-true (areBytes ks) (areBytes vs) b .0))))
+        (addOutcome kind (t .buffer) (t .groups) ks vs work)
+        (λ n. add-left (t .buffer) (t .groups) (h .table) kind ks vs work (are-bytes ks (both-true (areBytes ks) (areBytes vs) b .0))))
 
   module _ (start′ : List ℕ) (u : Store) (others : List Row) (g : HoldsRows start′ u others) where
-    pub merge-outcome : mergeOutcome (t .bytes) (t .groups) (u .bytes) (u .groups) ≡ mergeRowsOutcome (length start) rows others
+    pub merge-outcome : mergeOutcome (t .buffer) (t .groups) (u .buffer) (u .groups) ≡ mergeRowsOutcome (length start) rows others
     unfolding mergeGrounds mergeRowsGrounds
     merge-outcome =
         rw (
           sound-is,
-          is-true (sound (u .bytes) (u .groups)) (g .table .is-sound),
+          is-true (sound (u .buffer) (u .groups)) (g .table .is-sound),
           h .holds,
           g .holds,
           h .size,
@@ -128,7 +128,7 @@ module _ (start : List ℕ) (t : Store) (rows : List Row) (h : HoldsRows start t
     pub merge-holds : HoldsRows start (afterMerge t u) (extended (mergeRowsOutcome (length start) rows others) rows others)
     merge-holds =
         subst (λ (o : Outcome ℕ). HoldsRows start (afterMerge t u) (extended o rows others)) merge-outcome
-        (after-holds others (mergeSections (t .bytes) (t .groups) (u .bytes) (u .groups))
+        (after-holds others (mergeSections (t .buffer) (t .groups) (u .buffer) (u .groups))
         (ap₂ merged (h .holds) (g .holds) ∙ merged-canonical rows others)
-        (mergeOutcome (t .bytes) (t .groups) (u .bytes) (u .groups))
-        (λ n. merge-left (t .bytes) (t .groups) (h .table) (u .bytes) (u .groups) (g .table)))
+        (mergeOutcome (t .buffer) (t .groups) (u .buffer) (u .groups))
+        (λ n. merge-left (t .buffer) (t .groups) (h .table) (u .buffer) (u .groups) (g .table)))

@@ -71,12 +71,12 @@ abbrev pub noRows : Ledger
 noRows = record { rows = λ i. [] }
 
 -- a family of things by number, with thing i changed to x
-abbrev pub put : {A : Type 0} → ℕ → A → (ℕ → A) → ℕ → A
-put i x s j = cond (eqb j i) x (s j)
+abbrev pub update : {A : Type 0} → ℕ → A → (ℕ → A) → ℕ → A
+update i x s j = cond (eqb j i) x (s j)
 
 -- the ledger with these rows for table i
 abbrev pub setRows : ℕ → List Row → Ledger → Ledger
-setRows i rows l = record { rows = put i rows (l .rows) }
+setRows i rows l = record { rows = update i rows (l .rows) }
 
 -- a table's rows after a call with new ones: an accepted call adds all of them, a refused one none
 abbrev pub extended : Outcome ℕ → List Row → List Row → List Row

@@ -27,12 +27,12 @@ use Rattle.history.specs.Demand3.{History}
 use Rattle.history.specs.Run.{Store, State, noGroups, groupsAre, sumIs, figureIs, lineIs, step, stateAfter, askTable, answer, answers}
 
 -- a buffer of 128 bytes: room for two sections
-abbrev first : List ℕ
-first = replicate 128 255
+abbrev lentBuffer : List ℕ
+lentBuffer = replicate 128 255
 
 -- every table is empty, in such a buffer
-abbrev start : State
-start = noGroups (λ i. first)
+abbrev emptyTables : State
+emptyTables = noGroups (λ i. lentBuffer)
 
 -- an add to table i of rows given by their keys and bits
 abbrev addTo : ℕ → List ℕ → List ℕ → Call
@@ -43,13 +43,13 @@ abbrev refusedAdd : Call
 refusedAdd = add 0 Double (7 ∷ 0 ∷ 0 ∷ []) [] 128
 
 -- 1 and 2^60 in section 7, the smallest double in section 3
-abbrev rows : List Row
-rows = record { key = 7; bits = 0x3FF0000000000000 } ∷ record { key = 3; bits = 1 } ∷ record { key = 7; bits = 0x43B0000000000000 } ∷ []
+abbrev exampleRows : List Row
+exampleRows = record { key = 7; bits = 0x3FF0000000000000 } ∷ record { key = 3; bits = 1 } ∷ record { key = 7; bits = 0x43B0000000000000 } ∷ []
 
 -- what a list of calls leaves in table 0
-left : List Call → Store
+leftInTable0 : List Call → Store
 unfolding stateAfter step answers answer askTable addGrounds columnGrounds mergeGrounds sound rising cells soundRecords soundRecord soundTotal isZero columnsFit image bytes anyOf rowsOf rowsFrom number numberAt added merged absorb combine levelOf ofRow top topFrom given contribution encode decode
-left cs = stateAfter start cs .tables 0
+leftInTable0 cs = stateAfter emptyTables cs .tables 0
 
 -- the same rows in one add, in another order, in two adds, merged from another table, merged the other way round, and with a refused add between
 abbrev ways : List (List Call)
@@ -62,8 +62,8 @@ ways =
     ∷ (addTo 0 (7 ∷ []) (0x3FF0000000000000 ∷ []) ∷ refusedAdd ∷ addTo 0 (7 ∷ 3 ∷ []) (0x43B0000000000000 ∷ 1 ∷ []) ∷ [])
     ∷ []
 
-one-table : map left ways ≡ replicate 6 (record { bytes = written (canonical rows) first; groups = 2 })
-unfolding left canonical sectionNumbers insertKey sectionBits sectionAtTop topOf total
+one-table : map leftInTable0 ways ≡ replicate 6 (record { buffer = written (canonical exampleRows) lentBuffer; groups = 2 })
+unfolding leftInTable0 canonical sectionNumbers insertKey sectionBits sectionAtTop topOf total
 one-table = refl
 
 -- a table merged twice counts twice, in the rows and in the record
@@ -72,25 +72,25 @@ twice = addTo 0 (7 ∷ []) (1 ∷ []) ∷ addTo 1 (7 ∷ []) (2 ∷ []) ∷ merg
 
 -- as a way of working: its columns hold bytes
 example : History
-unfolding left
-example = record { start = λ (i : ℕ). first; calls = twice; lent = refl }
+unfolding leftInTable0
+example = record { initial = λ (i : ℕ). lentBuffer; calls = twice; lent = refl }
 
 rows-twice : map (λ (r : Row). r .bits) (ledgerAfter (λ (i : ℕ). 128) noRows twice .rows 0) ≡ 1 ∷ 2 ∷ 2 ∷ []
-unfolding left ledgerAfter stepRows mergeRowsGrounds tooManyRows sectionNumbers addRowsGrounds insertKey sectionBits tooManyKeys
+unfolding leftInTable0 ledgerAfter stepRows mergeRowsGrounds tooManyRows sectionNumbers addRowsGrounds insertKey sectionBits tooManyKeys
 rows-twice = refl
 
-count-twice : map (λ (t : Section). t .count) (sections (left twice .bytes) 1) ≡ 3 ∷ []
-unfolding left
+count-twice : map (λ (t : Section). t .count) (sections (leftInTable0 twice .buffer) 1) ≡ 3 ∷ []
+unfolding leftInTable0
 count-twice = refl
 
 -- answers: a refusal's number, or the new group count
-numbers : answers start (refusedAdd ∷ addTo 0 (7 ∷ 3 ∷ []) (1 ∷ 2 ∷ []) ∷ addTo 0 (5 ∷ []) (1 ∷ []) ∷ addTo 0 (3 ∷ []) (0x7FF0000000000000 ∷ []) ∷ [])
+numbers : answers emptyTables (refusedAdd ∷ addTo 0 (7 ∷ 3 ∷ []) (1 ∷ 2 ∷ []) ∷ addTo 0 (5 ∷ []) (1 ∷ []) ∷ addTo 0 (3 ∷ []) (0x7FF0000000000000 ∷ []) ∷ [])
     ≡ groupsAre (refused 9) ∷ groupsAre (accepted 2) ∷ groupsAre (refused 12) ∷ groupsAre (refused 10) ∷ []
-unfolding left
+unfolding leftInTable0
 numbers = refl
 
 -- B10 in a table: 2^60, 1 and -2^60 sum to 1; mill figure 100; section 8 is absent
-finished : answers start (addTo 0 (7 ∷ 7 ∷ 7 ∷ []) (0x43B0000000000000 ∷ 0x3FF0000000000000 ∷ 0xC3B0000000000000 ∷ []) ∷ ask 0 (sum 7) ∷ ask 0 (figure 7) ∷ ask 0 (line 8) ∷ [])
+finished : answers emptyTables (addTo 0 (7 ∷ 7 ∷ 7 ∷ []) (0x43B0000000000000 ∷ 0x3FF0000000000000 ∷ 0xC3B0000000000000 ∷ []) ∷ ask 0 (sum 7) ∷ ask 0 (figure 7) ∷ ask 0 (line 8) ∷ [])
     ≡ groupsAre (accepted 1) ∷ sumIs (accepted (ofBits binary64 0x3FF0000000000000)) ∷ figureIs (accepted (pos 100)) ∷ lineIs (refused 13) ∷ []
-unfolding left find kept tooLarge nearestDouble millFigure beyond ofBits round
+unfolding leftInTable0 find kept tooLarge nearestDouble millFigure beyond ofBits round
 finished = refl

@@ -18,17 +18,17 @@ use Rattle.history.specs.Run.{Store, State, noGroups, stateAfter, askTab
 
 -- a way of working: the bytes in each table's buffer at the start, and the calls
 pub record History : Type 0 where
-  pub start : ℕ → List ℕ
+  pub initial : ℕ → List ℕ
   pub calls : List Call
   pub lent : anyOf (λ (c : Call). not (lendsBytes c)) calls ≡ false
 
 -- the state at the start: every table is empty
 abbrev pub empty : History → State
-empty h = noGroups (h .start)
+empty h = noGroups (h .initial)
 
 -- the lent lengths
 abbrev pub lengths : History → ℕ → ℕ
-lengths h i = length (h .start i)
+lengths h i = length (h .initial i)
 
 -- table i's rows after it, counted from the calls alone
 abbrev pub rows : History → ℕ → List Row
@@ -40,19 +40,19 @@ table h i = stateAfter (empty h) (h .calls) .tables i
 
 -- document 01's used bytes
 abbrev pub used : Store → List ℕ
-used t = take (64 * t .groups) (t .bytes)
+used t = take (64 * t .groups) (t .buffer)
 
 -- the sections that a table holds
 abbrev pub sectionsIn : Store → List Section
-sectionsIn t = sections (t .bytes) (t .groups)
+sectionsIn t = sections (t .buffer) (t .groups)
 
 -- the one claim, about the whole of every list of calls
 pub record Demand3 : Type 0 where
   -- a table holds the records that document 01 fixes for its rows, and after them what its buffer held at the start
   pub fixed : (h : History) (i : ℕ)
-      → table h i ≡ record { bytes = written (canonical (rows h i)) (h .start i); groups = length (canonical (rows h i)) }
+      → table h i ≡ record { buffer = written (canonical (rows h i)) (h .initial i); groups = length (canonical (rows h i)) }
   -- every table is sound
-  pub always-sound : (h : History) (i : ℕ) → sound (table h i .bytes) (table h i .groups) ≡ true
+  pub always-sound : (h : History) (i : ℕ) → sound (table h i .buffer) (table h i .groups) ≡ true
   -- every call is answered by the conditions on the rows, its inputs and the lent lengths; so 7 is never an answer
   pub answered : (h : History) → answers (empty h) (h .calls) ≡ answersRows (lengths h) noRows (h .calls)
   pub never-7 : (h : History) → anyOf (refuses 7) (answers (empty h) (h .calls)) ≡ false

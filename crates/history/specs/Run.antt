@@ -12,11 +12,11 @@ use Rattle.columns.specs.Columns.{Row}
 use Rattle.table.specs.Calls.{addOutcome, addLeaves, mergeOutcome, mergeLeaves}
 use Rattle.history.specs.Rows.{sectionBits}
 use Rattle.history.specs.Canonical.{sectionIf}
-use Rattle.history.specs.Calls.{Question, sum, figure, line, Call, add, merge, ask, Ledger, put, addRowsOutcome, mergeRowsOutcome, stepRows}
+use Rattle.history.specs.Calls.{Question, sum, figure, line, Call, add, merge, ask, Ledger, update, addRowsOutcome, mergeRowsOutcome, stepRows}
 
 -- a table as it is lent: the bytes of its buffer, and its group count
 pub record Store : Type 0 where
-  pub bytes : List ℕ
+  pub buffer : List ℕ
   pub groups : ℕ
 
 -- the state of a way of working: its tables
@@ -25,25 +25,25 @@ pub record State : Type 0 where
 
 -- no table has groups; start i are the bytes in table i's buffer
 abbrev pub noGroups : (ℕ → List ℕ) → State
-noGroups start = record { tables = λ i. record { bytes = start i; groups = 0 } }
+noGroups start = record { tables = λ i. record { buffer = start i; groups = 0 } }
 
 -- the state with t as table i
 abbrev pub setTable : ℕ → Store → State → State
-setTable i t s = record { tables = put i t (s .tables) }
+setTable i t s = record { tables = update i t (s .tables) }
 
 -- the table after a call that leaves the bytes s: an accepted one gives the new group count
 abbrev pub after : Outcome ℕ → List ℕ → ℕ → Store
-after (accepted n) s g = record { bytes = s; groups = n }
-after (refused n) s g = record { bytes = s; groups = g }
+after (accepted n) s g = record { buffer = s; groups = n }
+after (refused n) s g = record { buffer = s; groups = g }
 
 -- the table t after an add
 abbrev pub afterAdd : Kind → Store → List ℕ → List ℕ → ℕ → Store
-afterAdd kind t ks vs work = after (addOutcome kind (t .bytes) (t .groups) ks vs work) (addLeaves kind (t .bytes) (t .groups) ks vs work) (t .groups)
+afterAdd kind t ks vs work = after (addOutcome kind (t .buffer) (t .groups) ks vs work) (addLeaves kind (t .buffer) (t .groups) ks vs work) (t .groups)
 
 -- the table t after a merge of u into it
 abbrev pub afterMerge : Store → Store → Store
 afterMerge t u =
-    after (mergeOutcome (t .bytes) (t .groups) (u .bytes) (u .groups)) (mergeLeaves (t .bytes) (t .groups) (u .bytes) (u .groups)) (t .groups)
+    after (mergeOutcome (t .buffer) (t .groups) (u .buffer) (u .groups)) (mergeLeaves (t .buffer) (t .groups) (u .buffer) (u .groups)) (t .groups)
 
 -- the state after one call; a question changes nothing
 unfoldable pub step : State → Call → State
@@ -67,9 +67,9 @@ pub data Answer : Type 0 where
 
 -- what a question about a table answers
 unfoldable pub askTable : Store → Question → Answer
-askTable t (sum k) = sumIs (sumOutcome (t .bytes) (t .groups) k)
-askTable t (figure k) = figureIs (figureOutcome (t .bytes) (t .groups) k)
-askTable t (line k) = lineIs (lineOutcome (t .bytes) (t .groups) k)
+askTable t (sum k) = sumIs (sumOutcome (t .buffer) (t .groups) k)
+askTable t (figure k) = figureIs (figureOutcome (t .buffer) (t .groups) k)
+askTable t (line k) = lineIs (lineOutcome (t .buffer) (t .groups) k)
 
 -- what it is to answer by the table's rows alone
 unfoldable pub askRows : List Row → Question → Answer
@@ -79,8 +79,8 @@ askRows rows (line k) = lineIs (lineOf (sectionIf k (sectionBits k rows)))
 
 -- what a call in this state answers
 unfoldable pub answer : State → Call → Answer
-answer s (add i kind ks vs work) = groupsAre (addOutcome kind (s .tables i .bytes) (s .tables i .groups) ks vs work)
-answer s (merge i j d) = groupsAre (mergeOutcome (s .tables i .bytes) (s .tables i .groups) (s .tables j .bytes) (s .tables j .groups))
+answer s (add i kind ks vs work) = groupsAre (addOutcome kind (s .tables i .buffer) (s .tables i .groups) ks vs work)
+answer s (merge i j d) = groupsAre (mergeOutcome (s .tables i .buffer) (s .tables i .groups) (s .tables j .buffer) (s .tables j .groups))
 answer s (ask i q) = askTable (s .tables i) q
 
 -- what a list of calls answers, one by one

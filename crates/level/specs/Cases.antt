@@ -9,29 +9,29 @@ use Rattle.level.specs.Contributions.{contributionsOf}
 use Rattle.level.specs.declared.Contributions.{Contributions}
 
 -- the rows, by their bits
-rows : List ℕ
-rows =
+exampleRows : List ℕ
+exampleRows =
     0 ∷ 0x8000000000000000 ∷ 0x4064000000000000 ∷ 0xC064000000000000 ∷ 0x3DC0000000000001 ∷ 0x3FB999999999999A ∷ 0x403FFFFFFFFFFFFF
     ∷ 0x7FEFFFFFFFFFFFFF ∷ 0x7FF0000000000000 ∷ []
 
 -- a row's top and its three contributions
-abbrev part : ℕ → ℤ → ℤ → ℤ → Contributions
-part t h m l = record { top = t; high = h; middle = m; low = l }
+abbrev threeLevels : ℕ → ℤ → ℤ → ℤ → Contributions
+threeLevels t h m l = record { top = t; high = h; middle = m; low = l }
 
 -- what each of them gives
 expected : List Contributions
 expected =
-    part 0 (pos 0) (pos 0) (pos 0)
-    ∷ part 0 (pos 0) (pos 0) (pos 0)
-    ∷ part 27 (pos 2) (pos (2 ^ 39)) (pos 0)
-    ∷ part 27 (negℤ (pos 2)) (negℤ (pos (2 ^ 39))) (pos 0)
-    ∷ part 26 (pos 1) (negℤ (pos (2 ^ 39))) (pos (2 ^ 27))
-    ∷ part 26 (pos 1717986918) (pos 439804755968) (pos 0)
-    ∷ part 26 (pos (2 ^ 39)) (negℤ (pos (2 ^ 26))) (pos 0)
-    ∷ part 52 (pos (2 ^ 18)) (negℤ (pos 32)) (pos 0)
-    ∷ part 52 (pos (2 ^ 18)) (pos 0) (pos 0)
+    threeLevels 0 (pos 0) (pos 0) (pos 0)
+    ∷ threeLevels 0 (pos 0) (pos 0) (pos 0)
+    ∷ threeLevels 27 (pos 2) (pos (2 ^ 39)) (pos 0)
+    ∷ threeLevels 27 (negℤ (pos 2)) (negℤ (pos (2 ^ 39))) (pos 0)
+    ∷ threeLevels 26 (pos 1) (negℤ (pos (2 ^ 39))) (pos (2 ^ 27))
+    ∷ threeLevels 26 (pos 1717986918) (pos 439804755968) (pos 0)
+    ∷ threeLevels 26 (pos (2 ^ 39)) (negℤ (pos (2 ^ 26))) (pos 0)
+    ∷ threeLevels 52 (pos (2 ^ 18)) (negℤ (pos 32)) (pos 0)
+    ∷ threeLevels 52 (pos (2 ^ 18)) (pos 0) (pos 0)
     ∷ []
 
-computed : map contributionsOf rows ≡ expected
-unfolding rows expected top contribution
+computed : map contributionsOf exampleRows ≡ expected
+unfolding exampleRows expected top contribution
 computed = refl

@@ -22,7 +22,7 @@ pub record Carried (n m : ℕ) (r : List ℕ) : Type 0 where
   pub limb0 : getD r 0 0 < 2 ^ 40
   pub limb1 : getD r 1 0 < 2 ^ 40
   pub limb2 : getD r 2 0 < 2 ^ 40
-  pub last : getD r 3 0 ≤ m
+  pub limb3 : getD r 3 0 ≤ m
 
 -- ---- a difference
 

@@ -169,7 +169,7 @@ fn one_if(b: bool) -> u64
 
 // The quotient q or the next number, whichever is nearer, by its rest and half of the divisor; at an exact half the next where `up` says so, for which the
 // rest counts one more.
-pub fn round(q: u64, rest: u64, half: u64, up: bool) -> u64
+pub fn round_by(q: u64, rest: u64, half: u64, up: bool) -> u64
     requires { ⌜ (q < 2 ^ 63) × (rest < 2 ^ 63) ⌝ }
     ensures { λ r. ⌜ r ≡ rounded up q (compare rest half) ⌝ }
 {
@@ -191,7 +191,7 @@ fn leading_digits(a: [u64; 4]) -> u64
     ensures { λ r. ⌜ r ≡ leadingDigits a ⌝ }
 {
     let q = a[3] * 8192 + (a[2] >> 27);
-    round(q, lower_digits(a), 1 << 27, q % 2 == 1)
+    round_by(q, lower_digits(a), 1 << 27, q % 2 == 1)
 }
 
 // The bits with this field below these digits; a hidden digit among them adds one to the field.

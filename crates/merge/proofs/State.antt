@@ -16,7 +16,7 @@ use Rattle.codec.proofs.Cells.{cells-add, image-append}
 use Rattle.codec.proofs.Laws.{AreBytes, numberAt-lt}
 use Rattle.record.specs.declared.Record.{Record}
 use Rattle.record.specs.Layout.{recordAt, records, decode, encode}
-use Rattle.record.specs.Keys.{keys, rising}
+use Rattle.record.specs.Keys.{recordKeys, rising}
 use Rattle.record.specs.Sound.{soundRecord, soundRecords, sound}
 use Rattle.record.specs.Section.{Section, meaning, recordOf, sections, sectionBytes, written}
 use Rattle.record.proofs.Laws.{length-encode, decode-part}
@@ -57,7 +57,7 @@ sound-front (x ∷ xs) r h =
     let rest = soundRecords (xs ++ r ∷ []) in
     and-i (soundRecord x) (soundRecords xs) (and-l (soundRecord x) rest h) (sound-front xs r (and-r (soundRecord x) rest h))
 
-keys-below : (k : ℕ) (rs : List Record) → All (λ (x : ℕ). x < k) (keys rs) → Below k (map meaning rs)
+keys-below : (k : ℕ) (rs : List Record) → All (λ (x : ℕ). x < k) (recordKeys rs) → Below k (map meaning rs)
 keys-below k [] a = tt
 keys-below k (r ∷ rs) a = (a .0, keys-below k rs (a .1))
 
@@ -72,7 +72,7 @@ sound-prior s i h =
     let p = sound-parts s (suc i) h in
     let fits : suc i * 64 ≤ length s = p .0 in
     let e = records-more s i fits in
-    let r = rising-end (keys (records s i)) (keyAt s i) (rw (e, map-append) at (p .2)) in
+    let r = rising-end (recordKeys (records s i)) (keyAt s i) (rw (e, map-append) at (p .2)) in
     record {
       fits = fits;
       front = sound-if s i (omega arith) (omega (arith, p .1)) (r .0) (sound-front (records s i) (recordAt s (i * 64)) (rw e at (p .3)));

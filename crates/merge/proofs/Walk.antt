@@ -46,7 +46,7 @@ module _ (s s′ : List ℕ) (i j : ℕ) (e : Ends) where
 
 module _ (s s′ : List ℕ) (i j : ℕ) (h : T (sound s i)) (h′ : T (sound s′ j)) (l : 0 < j) where
   inside : (e : Ends) → e .i ≤ i → e .j ≤ j → e .i + e .j < i + j → Within s i s′ j e
-  inside e p q m = record { first = p; second = q; fewer = m; fits = sound-parts s i h .0; fits′ = sound-parts s′ j h′ .0 }
+  inside e p q m = record { first = p; second = q; fewer = m; inside = sound-parts s i h .0; inside′ = sound-parts s′ j h′ .0 }
 
   cut₂ : sections s′ j ≡ sections s′ (j - 1) ++ sectionIn s′ (j - 1) ∷ []
   cut₂ = sections-last s′ j l (sound-parts s′ j h′ .0)

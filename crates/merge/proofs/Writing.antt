@@ -25,7 +25,7 @@ use Rattle.table.proofs.State.{sections-agree, sound-agree}
 use Rattle.merge.proofs.Walk.{length-back, any-back, merge-none}
 
 -- the sections of i and j records are still to be written, at the first k places of s; then s₀ has become what it is to be
-pub record Left (s₀ : List ℕ) (g : ℕ) (s′ : List ℕ) (g′ : ℕ) (s : List ℕ) (i j k : ℕ) : Type 0 where
+pub record Unwritten (s₀ : List ℕ) (g : ℕ) (s′ : List ℕ) (g′ : ℕ) (s : List ℕ) (i j k : ℕ) : Type 0 where
   pub sound₁ : T (sound s i)
   pub sound₂ : T (sound s′ j)
   pub groups : k ≡ length (mergeSections s i s′ j)
@@ -35,7 +35,7 @@ pub record Left (s₀ : List ℕ) (g : ℕ) (s′ : List ℕ) (g′ : ℕ) (s : 
   pub long : length s ≡ length s₀
   pub bytes : AreBytes s
 
-module _ {s₀ : List ℕ} {g : ℕ} {s′ : List ℕ} {g′ : ℕ} {s : List ℕ} {i j k : ℕ} (t : Left s₀ g s′ g′ s i j k) where
+module _ {s₀ : List ℕ} {g : ℕ} {s′ : List ℕ} {g′ : ℕ} {s : List ℕ} {i j k : ℕ} (t : Unwritten s₀ g s′ g′ s i j k) where
   pub finished : j ≤ 0 → s ≡ written (mergeSections s₀ g s′ g′) s₀
   finished h =
       sym (written-self s i (t .sound₁) (t .bytes)) ∙ ap (λ (x : List Section). written x s) (sym (merge-none s s′ i j h)) ∙ t .rest
@@ -70,7 +70,7 @@ module _ {s₀ : List ℕ} {g : ℕ} {s′ : List ℕ} {g′ : ℕ} {s : List �
       put : s₁ ≡ sets s (length (mergeSections s (e .i) s′ (e .j)) * 64) (encode (recordOf (lastSection s i s′ j e)))
       put = q ∙ ap₂ (λ (m : ℕ) (x : Record). sets s (m * 64) (encode x)) n p
 
-      pub left-less : AreBytes s₁ → Left s₀ g s′ g′ s₁ (e .i) (e .j) (k - 1)
+      pub left-less : AreBytes s₁ → Unwritten s₀ g s′ g′ s₁ (e .i) (e .j) (k - 1)
       left-less h = record {
         sound₁ = sound-agree s₁ s (e .i) same inside (rw (← long₁) inside) (b .sound₁);
         sound₂ = b .sound₂;

@@ -20,34 +20,34 @@ abbrev nothing : SplitTotal
 nothing = record { residue = 0; carry = pos 0 }
 
 -- a table of one record: its rows are n zeros
-abbrev zeros : ℕ → ℕ → List ℕ
-zeros k n = encode (record { key = k; count = n; top = 0; zero = 0; high = nothing; middle = nothing; low = nothing })
+abbrev zeroRows : ℕ → ℕ → List ℕ
+zeroRows k n = encode (record { key = k; count = n; top = 0; reserved = 0; high = nothing; middle = nothing; low = nothing })
 
 -- keys 1 and 2 in a 64-byte table, and in one of 128 bytes
-no-room : mergeOutcome (zeros 1 1) 1 (zeros 2 1) 1 ≡ refused 12
+no-room : mergeOutcome (zeroRows 1 1) 1 (zeroRows 2 1) 1 ≡ refused 12
 unfolding mergeGrounds merged absorb combine levelOf anyOf sound soundRecords soundRecord soundTotal isZero rising cells decode encode bytes numberAt number
 no-room = refl
 
-room : mergeOutcome (zeros 1 1 ++ replicate 64 255) 1 (zeros 2 1) 1 ≡ accepted 2
+with-room : mergeOutcome (zeroRows 1 1 ++ replicate 64 255) 1 (zeroRows 2 1) 1 ≡ accepted 2
 unfolding mergeGrounds merged absorb combine levelOf anyOf sound soundRecords soundRecord soundTotal isZero rising cells decode encode bytes numberAt number
-room = refl
+with-room = refl
 
 -- keys stand in rising order, whichever table they come from; the bytes after them stay
-in-order : mergeLeaves (zeros 2 1 ++ replicate 65 255) 1 (zeros 1 1) 1 ≡ zeros 1 1 ++ zeros 2 1 ++ replicate 1 255
+in-order : mergeLeaves (zeroRows 2 1 ++ replicate 65 255) 1 (zeroRows 1 1) 1 ≡ zeroRows 1 1 ++ zeroRows 2 1 ++ replicate 1 255
 unfolding mergeGrounds merged absorb combine levelOf anyOf sound soundRecords soundRecord soundTotal isZero rising cells image decode encode bytes numberAt number
 in-order = refl
 
 -- an equal key: the counts are added
-added : mergeLeaves (zeros 7 3) 1 (zeros 7 4) 1 ≡ zeros 7 7
+counts-added : mergeLeaves (zeroRows 7 3) 1 (zeroRows 7 4) 1 ≡ zeroRows 7 7
 unfolding mergeGrounds merged absorb combine levelOf anyOf sound soundRecords soundRecord soundTotal isZero rising cells image decode encode bytes numberAt number
-added = refl
+counts-added = refl
 
 -- one row onto a sound record at that count
-too-many : mergeOutcome (zeros 7 4294967295) 1 (zeros 7 1) 1 ≡ refused 11
+too-many : mergeOutcome (zeroRows 7 4294967295) 1 (zeroRows 7 1) 1 ≡ refused 11
 unfolding mergeGrounds merged absorb combine levelOf anyOf sound soundRecords soundRecord soundTotal isZero rising cells decode encode bytes numberAt number
 too-many = refl
 
 -- g = 1 and an empty buffer, as either table
-not-sound : (mergeOutcome [] 1 (zeros 2 1) 1 ≡ refused 7) × (mergeOutcome (zeros 1 1) 1 [] 1 ≡ refused 7)
+not-sound : (mergeOutcome [] 1 (zeroRows 2 1) 1 ≡ refused 7) × (mergeOutcome (zeroRows 1 1) 1 [] 1 ≡ refused 7)
 unfolding mergeGrounds merged absorb combine levelOf anyOf sound soundRecords soundRecord soundTotal isZero rising cells decode encode bytes numberAt number
 not-sound = (refl, refl)

@@ -30,8 +30,8 @@ pub record Within (s : List ℕ) (i : ℕ) (s′ : List ℕ) (j : ℕ) (e : Ends
   pub first : e .i ≤ i
   pub second : e .j ≤ j
   pub fewer : e .i + e .j < i + j
-  pub fits : i * 64 ≤ length s
-  pub fits′ : j * 64 ≤ length s′
+  pub inside : i * 64 ≤ length s
+  pub inside′ : j * 64 ≤ length s′
 
 -- the section of what is taken off
 unfoldable pub lastSection : List ℕ → ℕ → List ℕ → ℕ → Ends → Section

@@ -14,7 +14,7 @@ use Rattle.codec.proofs.Cells.{length-cells}
 use Rattle.record.specs.declared.Record.{Record}
 use Rattle.record.specs.declared.Place.the-variants.{At, Gap}
 use Rattle.record.specs.Layout.{records, recordAt, decode}
-use Rattle.record.specs.Keys.{keys, rising, has, place}
+use Rattle.record.specs.Keys.{recordKeys, rising, has, place}
 use Rattle.record.specs.Section.{meaning, sections, find}
 use Rattle.record.specs.Sound.{sound, soundRecord}
 use Rattle.record.proofs.Laws.{getD-records, length-keys}
@@ -26,21 +26,21 @@ unfolding rising
 tail-rising x [] h = tt
 tail-rising x (y ∷ ys) h = and-r (ltb x y) (rising (y ∷ ys)) h
 
-find-at : (k : ℕ) (rs : List Record) (i : ℕ) (d : Record) → T (rising (keys rs)) → i < length (keys rs) → getD (keys rs) i 0 ≡ k → find k (map meaning rs) ≡ some (meaning (getD rs i d))
+find-at : (k : ℕ) (rs : List Record) (i : ℕ) (d : Record) → T (rising (recordKeys rs)) → i < length (recordKeys rs) → getD (recordKeys rs) i 0 ≡ k → find k (map meaning rs) ≡ some (meaning (getD rs i d))
 unfolding find
 find-at k [] i d h l e = absurd (lt-irrefl 0 (omega arith))
 find-at k (r ∷ rs) zero d h l e = rw (eq-eqb k (r .key) (sym e))
 find-at k (r ∷ rs) (suc i) d h l e =
-    let m : r .key < getD (keys rs) i 0 = rising-lt (keys (r ∷ rs)) h 0 (suc i) (omega arith) l in
+    let m : r .key < getD (recordKeys rs) i 0 = rising-lt (recordKeys (r ∷ rs)) h 0 (suc i) (omega arith) l in
     let n : k ≡ r .key → ⊥ = λ f. lt-irrefl k (omega arith) in
-    rw (ne-eqb k (r .key) n) (find-at k rs i d (tail-rising (r .key) (keys rs) h) (omega arith) e)
+    rw (ne-eqb k (r .key) n) (find-at k rs i d (tail-rising (r .key) (recordKeys rs) h) (omega arith) e)
 
-find-none : (k : ℕ) (rs : List Record) → has k (keys rs) ≡ false → find k (map meaning rs) ≡ none
+find-none : (k : ℕ) (rs : List Record) → has k (recordKeys rs) ≡ false → find k (map meaning rs) ≡ none
 unfolding find has
 find-none k [] e = refl
 find-none k (r ∷ rs) e = by (eqb (r .key) k) refl e (find-none k rs)
   where
-    by : (b : Bool) → eqb (r .key) k ≡ b → (b || has k (keys rs)) ≡ false → (has k (keys rs) ≡ false → find k (map meaning rs) ≡ none) → cond (eqb k (r .key)) (some (meaning r)) (find k (map meaning rs)) ≡ none
+    by : (b : Bool) → eqb (r .key) k ≡ b → (b || has k (recordKeys rs)) ≡ false → (has k (recordKeys rs) ≡ false → find k (map meaning rs) ≡ none) → cond (eqb k (r .key)) (some (meaning r)) (find k (map meaning rs)) ≡ none
     by true q f ih = let z : _≡_ {A = ℕ} 0 1 = cc in absurd (lt-irrefl 0 (omega arith))
     by false q f ih = rw (ne-eqb k (r .key) (λ g. eqb-false (r .key) k q (sym g))) (ih f)
 
@@ -53,10 +53,10 @@ sound-record-at s g i h l =
 
 module _ (s : List ℕ) (g k i : ℕ) (h : T (sound s g)) where
   -- the record at the place of a key
-  pub found : At i ≡ place k (keys (records s g)) → (i * 64 + 64 ≤ length s) × (find k (sections s g) ≡ some (meaning (recordAt s (i * 64)))) × T (soundRecord (recordAt s (i * 64)))
+  pub found : At i ≡ place k (recordKeys (records s g)) → (i * 64 + 64 ≤ length s) × (find k (sections s g) ≡ some (meaning (recordAt s (i * 64)))) × T (soundRecord (recordAt s (i * 64)))
   found e =
       let p = sound-parts s g h in
-      let w = place-is-at k (keys (records s g)) i (p .2) e in
+      let w = place-is-at k (recordKeys (records s g)) i (p .2) e in
       let n = length-keys s g in
       let l : i < g = omega arith in
       let d : Record = recordAt s (i * 64) in (
@@ -65,5 +65,5 @@ module _ (s : List ℕ) (g k i : ℕ) (h : T (sound s g)) where
         sound-record-at s g i h l,
       )
 
-  pub missing : Gap i ≡ place k (keys (records s g)) → find k (sections s g) ≡ none
-  missing e = find-none k (records s g) (place-is-gap k (keys (records s g)) i e .1)
+  pub missing : Gap i ≡ place k (recordKeys (records s g)) → find k (sections s g) ≡ none
+  missing e = find-none k (records s g) (place-is-gap k (recordKeys (records s g)) i e .1)

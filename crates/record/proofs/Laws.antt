@@ -20,7 +20,7 @@ use Rattle.codec.proofs.Cells.{getD-cells, cells-sets, map-cells, length-cells,
 use Rattle.level.specs.declared.SplitTotal.{SplitTotal}
 use Rattle.record.specs.declared.Record.{Record}
 use Rattle.record.specs.Layout.{totalAt, recordAt, encodeTotal, encode, decode, records}
-use Rattle.record.specs.Keys.{keys}
+use Rattle.record.specs.Keys.{recordKeys}
 
 pub length-encode : (r : Record) → length (encode r) ≡ 64
 unfolding encode
@@ -28,7 +28,7 @@ length-encode r = simp (length-append, length-bytes)
 
 -- the seven stores of a record are one
 pub stored : (s : List ℕ) (at : ℕ) (r : Record) {a b c d e f g : List ℕ}
-    → a ≡ sets s at (bytes 4 (r .key)) → b ≡ sets a (at + 4) (bytes 4 (r .count)) → c ≡ sets b (at + 8) (bytes 4 (r .top)) → d ≡ sets c (at + 12) (bytes 4 (r .zero))
+    → a ≡ sets s at (bytes 4 (r .key)) → b ≡ sets a (at + 4) (bytes 4 (r .count)) → c ≡ sets b (at + 8) (bytes 4 (r .top)) → d ≡ sets c (at + 12) (bytes 4 (r .reserved))
     → e ≡ sets d (at + 16) (encodeTotal (r .high)) → f ≡ sets e (at + 32) (encodeTotal (r .middle)) → g ≡ sets f (at + 48) (encodeTotal (r .low))
     → g ≡ sets s at (encode r)
 unfolding encode
@@ -36,12 +36,12 @@ stored s at r p q u v x y z =
     let k1 = bytes 4 (r .key) in
     let k2 = k1 ++ bytes 4 (r .count) in
     let k3 = k2 ++ bytes 4 (r .top) in
-    let k4 = k3 ++ bytes 4 (r .zero) in
+    let k4 = k3 ++ bytes 4 (r .reserved) in
     let k5 = k4 ++ encodeTotal (r .high) in
     let k6 = k5 ++ encodeTotal (r .middle) in
     let q2 = sets-then s at 4 k1 (bytes 4 (r .count)) p (length-bytes 4 (r .key)) q in
     let q3 = sets-then s at 8 k2 (bytes 4 (r .top)) q2 (simp (length-append, length-bytes)) u in
-    let q4 = sets-then s at 12 k3 (bytes 4 (r .zero)) q3 (simp (length-append, length-bytes)) v in
+    let q4 = sets-then s at 12 k3 (bytes 4 (r .reserved)) q3 (simp (length-append, length-bytes)) v in
     let q5 = sets-then s at 16 k4 (encodeTotal (r .high)) q4 (simp (length-append, length-bytes)) x in
     let q6 = sets-then s at 32 k5 (encodeTotal (r .middle)) q5 (simp (length-append, length-bytes)) y in
     sets-then s at 48 k6 (encodeTotal (r .low)) q6 (simp (length-append, length-bytes)) z
@@ -62,7 +62,7 @@ pub record InRange (r : Record) : Type 0 where
   pub key : r .key < 2 ^ 32
   pub count : r .count < 2 ^ 32
   pub top : r .top < 2 ^ 32
-  pub zero : r .zero < 2 ^ 32
+  pub reserved : r .reserved < 2 ^ 32
   pub high : TotalInRange (r .high)
   pub middle : TotalInRange (r .middle)
   pub low : TotalInRange (r .low)
@@ -82,7 +82,7 @@ decode-encode r h =
       numberAt-bytes 4 (r .key) (h .key),
       numberAt-bytes 4 (r .count) (h .count),
       numberAt-bytes 4 (r .top) (h .top),
-      numberAt-bytes 4 (r .zero) (h .zero),
+      numberAt-bytes 4 (r .reserved) (h .reserved),
       numberAt-bytes 8 (r .high .residue) (h .high .residue),
       carry-back (r .high .carry) (h .high .carry),
       numberAt-bytes 8 (r .middle .residue) (h .middle .residue),
@@ -98,13 +98,13 @@ module _ (s : List ℕ) (g : ℕ) (fits : g * 64 ≤ length s) where
   pub records-put : (i : ℕ) (r : Record) → i < g → decode (encode r) ≡ r → records (sets s (i * 64) (encode r)) g ≡ set (records s g) i r
   records-put i r h e = cells-sets 64 decode i g s (encode r) h (length-encode r) fits ∙ ap (set (records s g) i) e
 
-  pub getD-keys : (i : ℕ) → i < g → getD (keys (records s g)) i 0 ≡ numberAt 4 s (i * 64)
+  pub getD-keys : (i : ℕ) → i < g → getD (recordKeys (records s g)) i 0 ≡ numberAt 4 s (i * 64)
   getD-keys i h =
       ap (λ (l : List ℕ). getD l i 0) (map-cells 64 decode (λ (r : Record). r .key) g s)
       ∙ getD-cells 64 (λ (b : List ℕ). decode b .key) i g s 0 h
       ∙ ap (λ (r : Record). r .key) (decode-part s (i * 64) (omega arith))
 
-pub length-keys : (s : List ℕ) (g : ℕ) → length (keys (records s g)) ≡ g
+pub length-keys : (s : List ℕ) (g : ℕ) → length (recordKeys (records s g)) ≡ g
 length-keys s g = length-map (records s g) (λ (r : Record). r .key) ∙ length-cells 64 decode g s
 
 -- ---- the used bytes are determined by the records

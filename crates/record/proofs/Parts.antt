@@ -23,7 +23,7 @@ empty-total h e = rw (e .0, e .1)
 pub record SoundParts (r : Record) : Type 0 where
   pub count : 1 ≤ r .count
   pub top : r .top ≤ 52
-  pub zero : r .zero ≡ 0
+  pub reserved : r .reserved ≡ 0
   pub high : T (soundTotal (r .count) (r .high))
   pub middle : T (soundTotal (r .count) (r .middle))
   pub low : T (soundTotal (r .count) (r .low))
@@ -49,7 +49,7 @@ unfolding soundRecord
 sound-record-parts r h =
     let a = leb 1 (r .count) in
     let b = leb (r .top) 52 in
-    let c = eqb (r .zero) 0 in
+    let c = eqb (r .reserved) 0 in
     let d = soundTotal (r .count) (r .high) in
     let e = soundTotal (r .count) (r .middle) in
     let f = soundTotal (r .count) (r .low) in
@@ -64,7 +64,7 @@ sound-record-parts r h =
     record {
       count = leb→le 1 (r .count) (and-l a b h2);
       top = leb→le (r .top) 52 (and-r a b h2);
-      zero = eqb→eq (r .zero) 0 (and-r (a && b) c h3);
+      reserved = eqb→eq (r .reserved) 0 (and-r (a && b) c h3);
       high = and-r (a && b && c) d h4;
       middle = and-r (a && b && c && d) e h5;
       low = and-r (a && b && c && d && e) f h6;

@@ -11,7 +11,7 @@ use Rattle.level.specs.declared.SplitTotal.{SplitTotal}
 use Rattle.record.specs.declared.Record.{Record}
 use Rattle.record.specs.declared.Place.the-variants.{At, Gap}
 use Rattle.record.specs.Layout.{decode, encode, records}
-use Rattle.record.specs.Keys.{keys, rising, countBelow, has, place}
+use Rattle.record.specs.Keys.{recordKeys, rising, countBelow, has, place}
 use Rattle.level.specs.Carry.{totalOf}
 use Rattle.record.specs.Sound.{soundTotal, isZero, soundRecord, soundRecords, sound}
 
@@ -21,7 +21,7 @@ nothing = record { residue = 0; carry = pos 0 }
 
 -- B2, the row -1: first residue 1125882726973440, carry -1, top 26
 abbrev b2 : Record
-b2 = record { key = 7; count = 1; top = 26; zero = 0; high = record { residue = 1125882726973440; carry = negsuc 0 }; middle = nothing; low = nothing }
+b2 = record { key = 7; count = 1; top = 26; reserved = 0; high = record { residue = 1125882726973440; carry = negsuc 0 }; middle = nothing; low = nothing }
 
 b2-total : totalOf (b2 .high) ≡ negsuc (2 ^ 34 - 1)
 b2-total = refl
@@ -34,11 +34,11 @@ b2-sound : soundRecord b2 ≡ true
 unfolding soundRecord soundTotal isZero
 b2-sound = refl
 
--- a table of one record, with bytes after it that do not count
-abbrev one : List ℕ
-one = encode b2 ++ replicate 70 255
+-- a table of oneRecord record, with bytes after it that do not count
+abbrev oneRecord : List ℕ
+oneRecord = encode b2 ++ replicate 70 255
 
-one-sound : sound one 1 ≡ true
+one-sound : sound oneRecord 1 ≡ true
 unfolding sound soundRecords soundRecord soundTotal isZero rising cells decode encode bytes numberAt number
 one-sound = refl
 
@@ -46,15 +46,15 @@ twice-not : sound (encode b2 ++ encode b2) 2 ≡ false
 unfolding sound soundRecords soundRecord soundTotal isZero rising cells decode encode bytes numberAt number
 twice-not = refl
 
-found : place 7 (keys (records one 1)) ≡ At 0
+found : place 7 (recordKeys (records oneRecord 1)) ≡ At 0
 unfolding has countBelow cells decode encode bytes numberAt number
 found = refl
 
-gap : place 8 (keys (records one 1)) ≡ Gap 1
+gap : place 8 (recordKeys (records oneRecord 1)) ≡ Gap 1
 unfolding has countBelow cells decode encode bytes numberAt number
 gap = refl
 
--- at the bound, and one past it, on either side
+-- at the bound, and oneRecord past it, on either side
 edge : (soundTotal 1 (record { residue = 2 ^ 39; carry = pos 0 }) ≡ true) × (soundTotal 1 (record { residue = 2 ^ 39 + 1; carry = pos 0 }) ≡ false)
 unfolding soundTotal
 edge = (refl, refl)

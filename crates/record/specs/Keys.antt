@@ -8,8 +8,8 @@ use Rattle.record.specs.declared.Place.{Place}
 use Rattle.record.specs.declared.Place.the-variants.{At, Gap}
 
 -- the keys of records
-abbrev pub keys : List Record → List ℕ
-keys rs = map (λ (r : Record). r .key) rs
+abbrev pub recordKeys : List Record → List ℕ
+recordKeys rs = map (λ (r : Record). r .key) rs
 
 -- each key is smaller than the next one
 unfoldable pub rising : List ℕ → Bool

@@ -10,7 +10,7 @@ use Rattle.level.specs.Level.{levelBound}
 use Rattle.level.specs.Carry.{carryBase, totalOf}
 use Rattle.record.specs.declared.Record.{Record}
 use Rattle.record.specs.Layout.{records, capacity}
-use Rattle.record.specs.Keys.{keys, rising}
+use Rattle.record.specs.Keys.{recordKeys, rising}
 
 -- the residue is in range, and the total at most n × 2^39 in size, for n rows
 unfoldable pub soundTotal : ℕ → SplitTotal → Bool
@@ -23,7 +23,7 @@ isZero t = eqb (t .residue) 0 && eqb (natAbs (t .carry)) 0
 -- one record by itself; levels below 0 hold 0
 unfoldable pub soundRecord : Record → Bool
 soundRecord r =
-    leb 1 (r .count) && leb (r .top) 52 && eqb (r .zero) 0
+    leb 1 (r .count) && leb (r .top) 52 && eqb (r .reserved) 0
     && soundTotal (r .count) (r .high) && soundTotal (r .count) (r .middle) && soundTotal (r .count) (r .low)
     && (leb 1 (r .top) || isZero (r .middle)) && (leb 2 (r .top) || isZero (r .low))
 
@@ -34,4 +34,4 @@ soundRecords (r ∷ rs) = soundRecord r && soundRecords rs
 
 -- a table of g records in the bytes s
 unfoldable pub sound : List ℕ → ℕ → Bool
-sound s g = leb g (capacity (length s)) && (rising (keys (records s g)) && soundRecords (records s g))
+sound s g = leb g (capacity (length s)) && (rising (recordKeys (records s g)) && soundRecords (records s g))

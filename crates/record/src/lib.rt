@@ -6,15 +6,15 @@ ghost use mathlib.Core.List.{_∷_, _++_};
 ghost use lib.ListN.{length, take, drop};
 ghost use lib.Seq.{sets};
 ghost use lib.Dec.{T, ltb};
-ghost use Rattle.record.specs.Layout.{totalAt, recordAt, encodeTotal, encode, decode, records, capacity as roomFor};
-ghost use Rattle.record.specs.Keys.{keys, rising, place};
+ghost use Rattle.record.specs.Layout.{totalAt, recordAt, encodeTotal, encode, decode, records};
+ghost use Rattle.record.specs.Keys.{recordKeys, rising, place};
 use level::SplitTotal;
 
 pub struct Record {
     pub key: u32,
     pub count: u32,
     pub top: u32,
-    pub zero: u32,
+    pub reserved: u32,
     pub high: SplitTotal,
     pub middle: SplitTotal,
     pub low: SplitTotal,
@@ -40,7 +40,7 @@ pub fn get(t: &[u8], i: usize) -> Record
         key: codec::u32_at(t, at),
         count: codec::u32_at(t, at + 4),
         top: codec::u32_at(t, at + 8),
-        zero: codec::u32_at(t, at + 12),
+        reserved: codec::u32_at(t, at + 12),
         high: get_total(t, at + 16),
         middle: get_total(t, at + 32),
         low: get_total(t, at + 48),
@@ -64,7 +64,7 @@ pub fn put(t: &mut [u8], i: usize, r: Record)
     codec::put_u32(t, at, r.key);
     codec::put_u32(t, at + 4, r.count);
     codec::put_u32(t, at + 8, r.top);
-    codec::put_u32(t, at + 12, r.zero);
+    codec::put_u32(t, at + 12, r.reserved);
     put_total(t, at + 16, r.high);
     put_total(t, at + 32, r.middle);
     put_total(t, at + 48, r.low);
@@ -84,8 +84,8 @@ fn is_below(x: u32, y: u32) -> usize
 }
 
 pub fn binary_search(t: &[u8], g: usize, key: u32) -> Place
-    requires { ⌜ (g * 64 ≤ length (now t)) × T (rising (keys (records (now t) g))) ⌝ }
-    ensures { λ r. ⌜ r ≡ place key (keys (records (now (t .entry)) g)) ⌝ }
+    requires { ⌜ (g * 64 ≤ length (now t)) × T (rising (recordKeys (records (now t) g))) ⌝ }
+    ensures { λ r. ⌜ r ≡ place key (recordKeys (records (now (t .entry)) g)) ⌝ }
 {
     // The steps depend on g alone, and each chooses a number, not a way through the code.
     let mut lo = 0;
@@ -114,7 +114,7 @@ pub fn insert(t: &mut [u8], g: usize, i: usize, r: Record)
 
 // How many groups a buffer of n bytes has room for.
 pub fn capacity(n: usize) -> usize
-    ensures { λ r. ⌜ r ≡ roomFor n ⌝ }
+    ensures { λ r. ⌜ r ≡ Rattle.record.specs.Layout.capacity n ⌝ }
 {
     let all = n / 64;
     if all < 1024 { all } else { 1024 }

@@ -21,8 +21,8 @@ use Rattle.numerals.specs.Numerals.{digit, digits, decimalIn, decimal, integer}
 use Rattle.report.specs.Text.{headLine, refusalText, figureField, lastFields, lineWith, lineText, addText, columnsText, fileText, reportText}
 
 -- a key column, a value column and the trailer
-file : List ℕ → List ℕ → List ℕ
-file ks vs = image (bytes 4) ks ++ image (bytes 8) vs ++ bytes 4 (length ks) ++ bytes 4 (12 * length ks + 16) ++ bytes 4 (8 * length ks + 16) ++ mark
+fileOf : List ℕ → List ℕ → List ℕ
+fileOf ks vs = image (bytes 4) ks ++ image (bytes 8) vs ++ bytes 4 (length ks) ++ bytes 4 (12 * length ks + 16) ++ bytes 4 (8 * length ks + 16) ++ mark
 
 -- document 01's input, byte by byte
 sample : List ℕ
@@ -46,7 +46,7 @@ sampleText =
 
 -- section 5 with two rows 7FEFFFFFFFFFFFFF, section 4294967295 with the row 21474836.5 and section 0 with the row -0.125, the keys falling
 mixed : List ℕ
-mixed = file (4294967295 ∷ 5 ∷ 5 ∷ 0 ∷ []) (0x41747AE148000000 ∷ 0x7FEFFFFFFFFFFFFF ∷ 0x7FEFFFFFFFFFFFFF ∷ 0xBFC0000000000000 ∷ [])
+mixed = fileOf (4294967295 ∷ 5 ∷ 5 ∷ 0 ∷ []) (0x41747AE148000000 ∷ 0x7FEFFFFFFFFFFFFF ∷ 0x7FEFFFFFFFFFFFFF ∷ 0xBFC0000000000000 ∷ [])
 
 -- a negative figure, a sum refused and a figure refused
 mixedText : List ℕ
@@ -82,7 +82,7 @@ infiniteText =
     0x72 ∷ 0x65 ∷ 0x66 ∷ 0x75 ∷ 0x73 ∷ 0x65 ∷ 0x64 ∷ 0x20 ∷ 0x31 ∷ 0x30 ∷ 0x0A
     ∷ []
 
-reports : map reportText (sample ∷ mixed ∷ file [] [] ∷ [] ∷ file (1 ∷ []) (0x7FF0000000000000 ∷ []) ∷ [])
+reports : map reportText (sample ∷ mixed ∷ fileOf [] [] ∷ [] ∷ fileOf (1 ∷ []) (0x7FF0000000000000 ∷ []) ∷ [])
     ≡ sampleText ∷ mixedText ∷ headText ∷ refusedText ∷ infiniteText ∷ []
-unfolding sample sampleText file mixed mixedText headText refusedText infiniteText reportText fileText columnsText addText lineText lineWith lastFields figureField refusalText headLine decimal decimalIn digit digits integer number bytes numberAt cells image marked outside overlap readGrounds readOutcome column keyColumn valueColumn rowsFrom rowsOf columnsFit addGrounds columnGrounds anyOf ofRow levelOf combine absorb added top topFrom given contribution rising sound soundRecords kept nearestDouble tooLarge millFigure beyond round toBits ofBits
+unfolding sample sampleText fileOf mixed mixedText headText refusedText infiniteText reportText fileText columnsText addText lineText lineWith lastFields figureField refusalText headLine decimal decimalIn digit digits integer number bytes numberAt cells image marked outside overlap readGrounds readOutcome column keyColumn valueColumn rowsFrom rowsOf columnsFit addGrounds columnGrounds anyOf ofRow levelOf combine absorb added top topFrom given contribution rising sound soundRecords kept nearestDouble tooLarge millFigure beyond round toBits ofBits
 reports = refl

@@ -153,7 +153,7 @@ fn print_file(text: &mut [u8], file: &[u8]) -> usize
 // The report of a file, at the front of a lent buffer; a buffer that is too short is untouched.
 pub fn report(file: &[u8], out: &mut [u8]) -> Printed
     ensures answer { λ r. ⌜ printedAnswer r ≡ printOutcome (now (out .entry)) (reportText (now (file .entry))) ⌝ }
-    ensures bytes { λ r. ⌜ now (out .exit) ≡ printLeaves (now (out .entry)) (reportText (now (file .entry))) ⌝ }
+    ensures content { λ r. ⌜ now (out .exit) ≡ printLeaves (now (out .entry)) (reportText (now (file .entry))) ⌝ }
 {
     let mut text = [0u8; 4096];
     let n = print_file(&mut text, file);

@@ -5,7 +5,7 @@ ghost use Prim.Native.Nat.{_+_, _*_, _^_, _≤_};
 ghost use lib.ListN.{length};
 ghost use lib.Dec.{leb};
 ghost use Rattle.record.specs.Layout.{records};
-ghost use Rattle.record.specs.Keys.{keys, rising};
+ghost use Rattle.record.specs.Keys.{recordKeys, rising};
 ghost use Rattle.record.specs.Sound.{soundTotal, isZero, soundRecord, soundRecords, sound};
 use level::SplitTotal;
 use record::Record;
@@ -66,7 +66,7 @@ fn record_sound(r: Record) -> bool
     ensures { λ x. ⌜ x ≡ soundRecord r ⌝ }
 {
     let n = r.count;
-    let head = both(both(1 <= n, r.top <= 52), r.zero == 0);
+    let head = both(both(1 <= n, r.top <= 52), r.reserved == 0);
     let a = both(
         both(both(head, total_sound(r.high, n)), total_sound(r.middle, n)),
         total_sound(r.low, n),
@@ -78,7 +78,7 @@ fn record_sound(r: Record) -> bool
 // Whether the keys rise and each record is sound by itself.
 fn records_sound(t: &[u8], g: usize) -> bool
     requires { ⌜ g * 64 ≤ length (now t) ⌝ }
-    ensures { λ r. ⌜ r ≡ rising (keys (records (now (t .entry)) g)) && soundRecords (records (now (t .entry)) g) ⌝ }
+    ensures { λ r. ⌜ r ≡ rising (recordKeys (records (now (t .entry)) g)) && soundRecords (records (now (t .entry)) g) ⌝ }
 {
     let mut i = 0;
     while i < g {

@@ -18,7 +18,7 @@ use Rattle.codec.proofs.Cells.{cells-cons, length-image}
 use Rattle.level.specs.Carry.{carryOf, residueOf, splitOf}
 use Rattle.level.proofs.Carry.{residue-lt, total-split}
 use Rattle.record.specs.Layout.{encode, decode, records, capacity}
-use Rattle.record.specs.Keys.{keys, rising}
+use Rattle.record.specs.Keys.{recordKeys, rising}
 use Rattle.record.specs.Sound.{soundTotal, isZero, soundRecord, soundRecords, sound}
 use Rattle.record.specs.Section.{Section, meaning, recordOf, sections, sectionBytes, written}
 use Rattle.record.proofs.Laws.{length-encode, TotalInRange, InRange, decode-encode}
@@ -58,7 +58,7 @@ in-range s f =
       key = p .key;
       count = omega arith;
       top = omega (arith, p .top);
-      zero = omega arith;
+      reserved = omega arith;
       high = split-in-range (s .high) (omega (arith, p .high));
       middle = split-in-range (s .middle) (omega (arith, p .middle));
       low = split-in-range (s .low) (omega (arith, p .low));
@@ -124,12 +124,12 @@ pub written-over : (ts us : List Section) (s : List ℕ) → length ts ≤ lengt
 written-over ts us s h =
     ap (λ (l : List ℕ). sectionBytes us ++ l) (drop-past (sectionBytes ts) s (64 * length us) (64 * length ts) (length-sectionBytes ts) (omega arith))
 
-rising-above : (k : ℕ) (ts : List Section) → Above k (keysIn ts) → rising (k ∷ keys (map recordOf ts)) ≡ true
+rising-above : (k : ℕ) (ts : List Section) → Above k (keysIn ts) → rising (k ∷ recordKeys (map recordOf ts)) ≡ true
 unfolding rising
 rising-above k [] a = refl
 rising-above k (t ∷ ts) a = rw (lt-ltb k (t .key) (a .0)) (rising-above (t .key) ts (a .1))
 
-pub rising-records : (ts : List Section) → Rising (keysIn ts) → rising (keys (map recordOf ts)) ≡ true
+pub rising-records : (ts : List Section) → Rising (keysIn ts) → rising (recordKeys (map recordOf ts)) ≡ true
 unfolding rising
 rising-records [] a = refl
 rising-records (t ∷ ts) a = rising-above (t .key) ts a

@@ -12,7 +12,7 @@ use Rattle.codec.proofs.Cells.{length-cells, cells-take, image-cells}
 use Rattle.level.proofs.Carry.{split-total}
 use Rattle.record.specs.declared.Record.{Record}
 use Rattle.record.specs.Layout.{decode, encode, records, capacity}
-use Rattle.record.specs.Keys.{keys, rising}
+use Rattle.record.specs.Keys.{recordKeys, rising}
 use Rattle.record.specs.Sound.{soundRecord, soundRecords, sound}
 use Rattle.record.specs.Section.{Section, meaning, recordOf, sections, sectionBytes}
 use Rattle.record.proofs.Laws.{encode-decode}
@@ -44,7 +44,7 @@ record-meaning r t =
     let h = split-total (r .high) (residue-bound (r .count) (r .high) (p .high)) in
     let m = split-total (r .middle) (residue-bound (r .count) (r .middle) (p .middle)) in
     let l = split-total (r .low) (residue-bound (r .count) (r .low) (p .low)) in
-    λ i. record { key = r .key; count = r .count; top = r .top; zero = sym (p .zero) i; high = h i; middle = m i; low = l i }
+    λ i. record { key = r .key; count = r .count; top = r .top; reserved = sym (p .reserved) i; high = h i; middle = m i; low = l i }
 
 -- ---- the records of a table
 cells-all : {A : Type 0} (P : A → Type 0) (w : ℕ) (f : List ℕ → A) → ((b : List ℕ) → AreBytes b → P (f b)) → (n : ℕ) (s : List ℕ) → AreBytes s → All P (cells w f n s)
@@ -70,12 +70,12 @@ fits-all (r ∷ rs) a t = (
   fits-all rs (a .1) (and-r (soundRecord r) (soundRecords rs) t),
 )
 
-rising-keys : (rs : List Record) → T (rising (keys rs)) → Rising (keysIn (map meaning rs))
+rising-keys : (rs : List Record) → T (rising (recordKeys rs)) → Rising (keysIn (map meaning rs))
 unfolding rising
 rising-keys [] t = tt
 rising-keys (r ∷ []) t = tt
 rising-keys (r ∷ q ∷ rs) t =
-    (ltb→lt (r .key) (q .key) (and-l (ltb (r .key) (q .key)) (rising (keys (q ∷ rs))) t), rising-keys (q ∷ rs) (and-r (ltb (r .key) (q .key)) (rising (keys (q ∷ rs))) t))
+    (ltb→lt (r .key) (q .key) (and-l (ltb (r .key) (q .key)) (rising (recordKeys (q ∷ rs))) t), rising-keys (q ∷ rs) (and-r (ltb (r .key) (q .key)) (rising (recordKeys (q ∷ rs))) t))
 
 records-back : (rs : List Record) → T (soundRecords rs) → map recordOf (map meaning rs) ≡ rs
 unfolding soundRecords
@@ -100,7 +100,7 @@ module _ (s : List ℕ) (g : ℕ) (ok : T (sound s g)) where
 pub sound-sections : (s : List ℕ) (g : ℕ) (ts : List Section) → g ≤ capacity (length s) → records s g ≡ map recordOf ts → All Storable ts → Rising (keysIn ts) → T (sound s g)
 sound-sections s g ts h e a r =
     sound-if s g (omega arith) (omega arith)
-    (subst T (sym (ap (λ (rs : List Record). rising (keys rs)) e ∙ rising-records ts r)) tt)
+    (subst T (sym (ap (λ (rs : List Record). rising (recordKeys rs)) e ∙ rising-records ts r)) tt)
     (subst T (sym (ap soundRecords e ∙ sound-records ts a)) tt)
 
 -- ---- the used bytes
@@ -125,5 +125,5 @@ module _ (s t : List ℕ) (g : ℕ) (same : take (g * 64) s ≡ take (g * 64) t)
   sound-agree ok =
       let p = sound-parts t g ok in
       sound-if s g long (p .1)
-      (subst (λ (rs : List Record). T (rising (keys rs))) (sym records-agree) (p .2))
+      (subst (λ (rs : List Record). T (rising (recordKeys rs))) (sym records-agree) (p .2))
       (subst (λ (rs : List Record). T (soundRecords rs)) (sym records-agree) (p .3))

@@ -5,7 +5,7 @@ use native.Mathlib.Omega.{arith}
 use borrow.Author.Needs.{needs}
 use Rattle.record.specs.declared.Place.{Place}
 use Rattle.record.specs.Layout.{records}
-use Rattle.record.specs.Keys.{keys, place}
+use Rattle.record.specs.Keys.{recordKeys, place}
 use Rattle.record.proofs.Sound.{sound-parts}
 use Rattle.table.proofs.State.{section-proper, sound-fits}
 use Rattle.absorb.proofs.Absorbing.{Given, at-below, at-old, at-count, at-holds, gap-within, gap-length, gap-holds}
@@ -30,7 +30,7 @@ module _ (c : tie.After-locate) where
     few = start .pre .1 .1 .1;
   }
 
-  place-here : (p : Place) → c .locate .result ≡ p → p ≡ place (start .args .r .key) (keys (records (start .args .t .now) (start .args .g)))
+  place-here : (p : Place) → c .locate .result ≡ p → p ≡ place (start .args .r .key) (recordKeys (records (start .args .t .now) (start .args .g)))
   place-here p e = sym e ∙ c .locate .ensures
 
 locate-requires : tie.Need-locate-requires

@@ -16,8 +16,8 @@ returns c = hundredths-zero (λ (q : ℕ). not (c .before .args .negative)) (c .
 mul-n : tie.Need-mul-n
 mul-n c = search needs
 
-shr-round : tie.Need-shr-round
-shr-round c = search needs
+shr-round-by : tie.Need-shr-round-by
+shr-round-by c = search needs
 
 last-digits-requires : tie.Need-last-digits-requires
 last-digits-requires c κs = search needs
@@ -28,8 +28,8 @@ sub-power c = search needs
 power-requires : tie.Need-power-requires
 power-requires c κs = search needs
 
-round-requires : tie.Need-round-requires
-round-requires c κs =
+round-by-requires : tie.Need-round-by-requires
+round-by-requires c κs =
     let s = c .before .before .before in
     let n = s .args .m * 100 in
     let l : n < 2 ^ 63 = omega (arith, s .pre .0) in
@@ -39,7 +39,7 @@ returns-2 : tie.Need-returns-2
 returns-2 c =
     let s = c .before .before .before .before in
     let n = s .args .m * 100 in
-    let e : c .round .result ≡ rounded (not (s .args .negative)) (n / 2 ^ s .args .r) (compare (c .before .before .last-digits .result) (c .before .power .result)) = c .round .ensures in
+    let e : c .round-by .result ≡ rounded (not (s .args .negative)) (n / 2 ^ s .args .r) (compare (c .before .before .last-digits .result) (c .before .power .result)) = c .round-by .ensures in
     e
     ∙ hundredths-round (λ (q : ℕ). not (s .args .negative)) (s .args .m * 100) (s .args .r) _ _ (s .pre .1) (c .before .before .last-digits .ensures) (c .before .power .ensures)
 
@@ -49,9 +49,9 @@ nearest-hundredths-spec =
     (tie.spec
     returns
     mul-n
-    shr-round
+    shr-round-by
     last-digits-requires
     sub-power
     power-requires
-    round-requires
+    round-by-requires
     returns-2)

@@ -21,17 +21,17 @@ add-q c = search needs
 lower-digits-requires : tie.Need-lower-digits-requires
 lower-digits-requires c κs = search needs
 
-round-requires : tie.Need-round-requires
-round-requires c κs = search needs
+round-by-requires : tie.Need-round-by-requires
+round-by-requires c κs = search needs
 
 returns : tie.Need-returns
 returns c =
     let s = c .before .before in
     let a = s .args .t1 in
-    let e : c .round .result ≡ rounded (isOdd (lead a)) (lead a) (compare (c .before .lower-digits .result) (2 ^ 27)) = c .round .ensures in
+    let e : c .round-by .result ≡ rounded (isOdd (lead a)) (lead a) (compare (c .before .lower-digits .result) (2 ^ 27)) = c .round-by .ensures in
     e ∙ ap (λ (o : Ordering). rounded (isOdd (lead a)) (lead a) o) (c .before .lower-digits .ensures .0) ∙ lead-nearest a (s .pre)
 
 pub leading-digits-spec : {M : Type 1} → statement M
 leading-digits-spec =
     tie.close
-    (tie.spec array-read-q mul-q array-read-q-2 add-q lower-digits-requires round-requires returns)
+    (tie.spec array-read-q mul-q array-read-q-2 add-q lower-digits-requires round-by-requires returns)

@@ -2,12 +2,12 @@
 use Prim.Native.Nat.{_+_}
 use mathlib.Core.Path.{refl}
 use native.Mathlib.Omega.{arith}
-use Rattle.merge.proofs.Writing.{Left, room, few-last, left-less, finished}
+use Rattle.merge.proofs.Writing.{Unwritten, room, few-last, left-less, finished}
 use Rattle.merge.proofs.write_back.Statement.{statement}
 use Rattle.merge.proofs.write_back.Tie as tie
 
 abbrev Inv-loop : tie.InvT-loop
-Inv-loop first₀ g1 second g2 groups a₀ b₀ k₀ first a b k = Left first₀ g1 second g2 first a b k
+Inv-loop first₀ g1 second g2 groups a₀ b₀ k₀ first a b k = Unwritten first₀ g1 second g2 first a b k
 
 abbrev μ-loop : tie.MeasureT-loop
 μ-loop first₀ g1 second g2 groups a₀ b₀ k₀ first a b k = a + b

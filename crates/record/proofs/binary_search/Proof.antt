@@ -1,4 +1,4 @@
--- `find`: the number of keys below the one looked for lies between lo and lo + n, and each step halves n.
+-- `binary_search`: the number of keys below the one looked for lies between lo and lo + n, and each step halves n.
 use Prim.Native.Nat.{ℕ, _+_, _-_, _*_, _/_, _≤_, _<_, zero-le}
 use mathlib.Core.Path.{_≡_, refl, sym, _∙_}
 use mathlib.Core.List.{List}
@@ -11,7 +11,7 @@ use lib.ListN.{length, getD}
 use lib.Dec.{T, ltb}
 use Rattle.codec.specs.Bytes.{numberAt}
 use Rattle.record.specs.Layout.{records}
-use Rattle.record.specs.Keys.{keys, rising, countBelow, place}
+use Rattle.record.specs.Keys.{recordKeys, rising, countBelow, place}
 use Rattle.record.specs.declared.Place.the-variants.{At, Gap}
 use Rattle.record.proofs.Laws.{getD-keys, length-keys}
 use Rattle.record.proofs.Order.{below-le, below-lt, below-ge, place-at, place-gap}
@@ -19,27 +19,27 @@ use Rattle.record.proofs.binary_search.Statement.{statement}
 use Rattle.record.proofs.binary_search.Tie as tie
 
 -- what the key at a record says of the place; v is that key as it was read
-module _ (s : List ℕ) (g key : ℕ) (pre : (g * 64 ≤ length s) × T (rising (keys (records s g)))) (i v : ℕ) (e : v ≡ numberAt 4 s (i * 64)) where
-  at : i < g → getD (keys (records s g)) i 0 ≡ v
+module _ (s : List ℕ) (g key : ℕ) (pre : (g * 64 ≤ length s) × T (rising (recordKeys (records s g)))) (i v : ℕ) (e : v ≡ numberAt 4 s (i * 64)) where
+  at : i < g → getD (recordKeys (records s g)) i 0 ≡ v
   at h = getD-keys s g (pre .0) i h ∙ sym e
 
-  inside : i < g → i < length (keys (records s g))
+  inside : i < g → i < length (recordKeys (records s g))
   inside h = rw length-keys h
 
-  smaller : i < g → v < key → i < countBelow key (keys (records s g))
-  smaller h l = below-lt key (keys (records s g)) (pre .1) i (inside h) (rw (at h) l)
+  smaller : i < g → v < key → i < countBelow key (recordKeys (records s g))
+  smaller h l = below-lt key (recordKeys (records s g)) (pre .1) i (inside h) (rw (at h) l)
 
-  larger : i < g → key ≤ v → countBelow key (keys (records s g)) ≤ i
-  larger h l = below-ge key (keys (records s g)) (pre .1) i (inside h) (rw (at h) l)
+  larger : i < g → key ≤ v → countBelow key (recordKeys (records s g)) ≤ i
+  larger h l = below-ge key (recordKeys (records s g)) (pre .1) i (inside h) (rw (at h) l)
 
-  found : i < g → i ≡ countBelow key (keys (records s g)) → v ≡ key → At i ≡ place key (keys (records s g))
-  found h b q = place-at key (keys (records s g)) i b (inside h) (at h ∙ q)
+  found : i < g → i ≡ countBelow key (recordKeys (records s g)) → v ≡ key → At i ≡ place key (recordKeys (records s g))
+  found h b q = place-at key (recordKeys (records s g)) i b (inside h) (at h ∙ q)
 
-  missing : i < g → i ≡ countBelow key (keys (records s g)) → (v ≡ key → ⊥) → Gap i ≡ place key (keys (records s g))
-  missing h b n = place-gap key (keys (records s g)) (pre .1) i b (λ l q. n (sym (at h) ∙ q))
+  missing : i < g → i ≡ countBelow key (recordKeys (records s g)) → (v ≡ key → ⊥) → Gap i ≡ place key (recordKeys (records s g))
+  missing h b n = place-gap key (recordKeys (records s g)) (pre .1) i b (λ l q. n (sym (at h) ∙ q))
 
-past-all : (s : List ℕ) (g key : ℕ) → T (rising (keys (records s g))) → (i : ℕ) → i ≡ countBelow key (keys (records s g)) → g ≤ i → Gap i ≡ place key (keys (records s g))
-past-all s g key up i b h = place-gap key (keys (records s g)) up i b (λ l q. omega (arith, length-keys s g))
+past-all : (s : List ℕ) (g key : ℕ) → T (rising (recordKeys (records s g))) → (i : ℕ) → i ≡ countBelow key (recordKeys (records s g)) → g ≤ i → Gap i ≡ place key (recordKeys (records s g))
+past-all s g key up i b h = place-gap key (recordKeys (records s g)) up i b (λ l q. omega (arith, length-keys s g))
 
 -- a step goes up by half the records, or by none
 chosen : (h v key b : ℕ) → b ≡ cond (ltb v key) 1 0 → ((v < key) × (h * b ≡ h)) ⊎ ((key ≤ v) × (h * b ≡ 0))
@@ -50,7 +50,7 @@ chosen h v key b e = by (ltb v key) refl e
     by false q e = inr (ltb-false v key q, rw e (omega arith))
 
 abbrev Inv-loop : tie.InvT-loop
-Inv-loop t g key lo₀ n₀ lo n = (lo ≤ countBelow key (keys (records t g))) × (countBelow key (keys (records t g)) ≤ lo + n) × (lo + n ≤ g)
+Inv-loop t g key lo₀ n₀ lo n = (lo ≤ countBelow key (recordKeys (records t g))) × (countBelow key (recordKeys (records t g)) ≤ lo + n) × (lo + n ≤ g)
 
 abbrev μ-loop : tie.MeasureT-loop
 μ-loop t g key lo₀ n₀ lo n = n
@@ -58,7 +58,7 @@ abbrev μ-loop : tie.MeasureT-loop
 loop-holds : tie.Need-loop-holds Inv-loop μ-loop
 loop-holds c =
     let a = c .before .args in
-    (zero-le, omega (arith, below-le (a .key) (keys (records (a .t .now) (a .g))), length-keys (a .t .now) (a .g)), omega arith)
+    (zero-le, omega (arith, below-le (a .key) (recordKeys (records (a .t .now) (a .g))), length-keys (a .t .now) (a .g)), omega arith)
 
 add-half : tie.Need-add-half Inv-loop μ-loop
 add-half c = omega arith

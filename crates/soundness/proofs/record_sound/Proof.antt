@@ -54,7 +54,7 @@ both-requires-7 c κs = search needs
 joined :
     (r : Record) {counted head high highs middle middles low levels none free freed none′ free′ all : Bool} →
     counted ≡ (leb 1 (r .count) && leb (r .top) 52) →
-    head ≡ counted && eqb (r .zero) 0 →
+    head ≡ counted && eqb (r .reserved) 0 →
     high ≡ soundTotal (r .count) (r .high) →
     highs ≡ head && high →
     middle ≡ soundTotal (r .count) (r .middle) →

@@ -12,7 +12,7 @@ use Rattle.codec.specs.Bytes.{numberAt}
 use Rattle.codec.proofs.Cells.{length-cells}
 use Rattle.record.specs.declared.Record.{Record}
 use Rattle.record.specs.Layout.{recordAt, records, decode}
-use Rattle.record.specs.Keys.{keys, rising}
+use Rattle.record.specs.Keys.{recordKeys, rising}
 use Rattle.record.specs.Sound.{soundRecord, soundRecords}
 use Rattle.record.proofs.Laws.{getD-records, getD-keys, length-keys}
 use Rattle.soundness.proofs.Tests.{sound-cons, rising-more, rising-stop, rising-end}
@@ -21,10 +21,10 @@ use Rattle.soundness.proofs.records_sound.Tie as tie
 
 -- the records from i on
 abbrev from : List ℕ → ℕ → ℕ → Bool
-from s g i = rising (drop i (keys (records s g))) && soundRecords (drop i (records s g))
+from s g i = rising (drop i (recordKeys (records s g))) && soundRecords (drop i (records s g))
 
 abbrev Inv-loop : tie.InvT-loop
-Inv-loop t g i₀ i = (i ≤ g) × (from t g i ≡ (rising (keys (records t g)) && soundRecords (records t g)))
+Inv-loop t g i₀ i = (i ≤ g) × (from t g i ≡ (rising (recordKeys (records t g)) && soundRecords (records t g)))
 
 abbrev μ-loop : tie.MeasureT-loop
 μ-loop t g i₀ i = g - i
@@ -38,7 +38,7 @@ module _ (s : List ℕ) (g i : ℕ) (fits : g * 64 ≤ length s) (h : i < g) {r 
       ∙ ap (λ (x : Bool). x && soundRecords (drop (suc i) (records s g))) (sym eo))
 
   stop : not ok ≡ true → from s g i ≡ false
-  stop e = rw (here, not-true ok e) (and-false (rising (drop i (keys (records s g)))))
+  stop e = rw (here, not-true ok e) (and-false (rising (drop i (recordKeys (records s g)))))
 
   more : not ok ≡ false → soundRecords (drop i (records s g)) ≡ soundRecords (drop (i + 1) (records s g))
   more e = here ∙ rw (not-false ok e)
@@ -46,23 +46,23 @@ module _ (s : List ℕ) (g i : ℕ) (fits : g * 64 ≤ length s) (h : i < g) {r 
   -- the last record
   last : not ok ≡ false → g ≤ i + 1 → from s g i ≡ from s g (i + 1)
   last e l =
-      let ks = keys (records s g) in
+      let ks = recordKeys (records s g) in
       ap₂ (λ (a b : Bool). a && b) (rising-end ks i (omega (arith, length-keys s g)) ∙ sym (rising-end ks (i + 1) (omega (arith, length-keys s g)))) (more e)
 
   -- the key of the next record is y, as it was read
   module _ (l : i + 1 < g) {y : ℕ} (ey : y ≡ numberAt 4 s ((i + 1) * 64)) where
-    first : getD (keys (records s g)) i 0 ≡ r .key
+    first : getD (recordKeys (records s g)) i 0 ≡ r .key
     first = getD-keys s g fits i h ∙ sym (ap (λ (x : Record). x .key) er)
 
-    second : getD (keys (records s g)) (suc i) 0 ≡ y
+    second : getD (recordKeys (records s g)) (suc i) 0 ≡ y
     second = rw (← add-one i) (getD-keys s g fits (i + 1) l ∙ sym ey)
 
     fall : y ≤ r .key → from s g i ≡ false
-    fall q = rw (rising-stop (keys (records s g)) i (omega (arith, length-keys s g)) (omega (arith, first, second)))
+    fall q = rw (rising-stop (recordKeys (records s g)) i (omega (arith, length-keys s g)) (omega (arith, first, second)))
 
     rise : not ok ≡ false → r .key < y → from s g i ≡ from s g (i + 1)
     rise e q =
-        let up : rising (drop i (keys (records s g))) ≡ rising (drop (i + 1) (keys (records s g))) = rw add-one (rising-more (keys (records s g)) i (omega (arith, length-keys s g)) (omega (arith, first, second))) in
+        let up : rising (drop i (recordKeys (records s g))) ≡ rising (drop (i + 1) (recordKeys (records s g))) = rw add-one (rising-more (recordKeys (records s g)) i (omega (arith, length-keys s g)) (omega (arith, first, second))) in
         ap₂ (λ (a b : Bool). a && b) up (more e)
 
 -- where the record at i was found sound
@@ -85,19 +85,19 @@ module _ (e : tie.Else1 Inv-loop μ-loop) where
   inside : i < g
   inside = e .before .before .before .loop-test .taken
 
-  undecided : from t g i ≡ (rising (keys (records t g)) && soundRecords (records t g))
+  undecided : from t g i ≡ (rising (recordKeys (records t g)) && soundRecords (records t g))
   undecided = e .before .before .before .before .loop .inv .1
 
   -- the next key y is not larger
-  falls : i + 1 < g → {y : ℕ} → y ≡ numberAt 4 t ((i + 1) * 64) → y ≤ key → false ≡ (rising (keys (records t g)) && soundRecords (records t g))
+  falls : i + 1 < g → {y : ℕ} → y ≡ numberAt 4 t ((i + 1) * 64) → y ≤ key → false ≡ (rising (recordKeys (records t g)) && soundRecords (records t g))
   falls l ey q = sym (fall t g i (start .pre) inside (e .before .before .get .ensures) (e .before .record-sound .ensures) l ey q) ∙ undecided
 
   -- it is larger
-  rises : i + 1 < g → {y : ℕ} → y ≡ numberAt 4 t ((i + 1) * 64) → key < y → from t g (i + 1) ≡ (rising (keys (records t g)) && soundRecords (records t g))
+  rises : i + 1 < g → {y : ℕ} → y ≡ numberAt 4 t ((i + 1) * 64) → key < y → from t g (i + 1) ≡ (rising (recordKeys (records t g)) && soundRecords (records t g))
   rises l ey q = sym (rise t g i (start .pre) inside (e .before .before .get .ensures) (e .before .record-sound .ensures) l ey (e .if1 .left) q) ∙ undecided
 
   -- there is none
-  ends : g ≤ i + 1 → from t g (i + 1) ≡ (rising (keys (records t g)) && soundRecords (records t g))
+  ends : g ≤ i + 1 → from t g (i + 1) ≡ (rising (recordKeys (records t g)) && soundRecords (records t g))
   ends l = sym (last t g i (start .pre) inside (e .before .before .get .ensures) (e .before .record-sound .ensures) (e .if1 .left) l) ∙ undecided
 
 loop-holds : tie.Need-loop-holds Inv-loop μ-loop
@@ -145,7 +145,7 @@ returns-3 c =
     let a = c .before .before .before .args in
     let l = c .before .loop in
     let rs = records (a .t .now) (a .g) in
-    sym (ap₂ (λ (x y : Bool). x && y) (rising-end (keys rs) (l .i) (omega (arith, length-keys (a .t .now) (a .g))))
+    sym (ap₂ (λ (x y : Bool). x && y) (rising-end (recordKeys rs) (l .i) (omega (arith, length-keys (a .t .now) (a .g))))
     (ap soundRecords (drop-of-length-le rs {i = l .i} (omega (arith, length-cells 64 decode (a .g) (a .t .now)))))) ∙ l .inv .1
 
 pub records-sound-spec : {M : Type 1} → statement M

@@ -42,7 +42,7 @@ joined :
     high ≡ splitOf (below (bothAt (meaning a) (meaning b)) t 0) →
     middle ≡ splitOf (below (bothAt (meaning a) (meaning b)) t 1) →
     low ≡ splitOf (below (bothAt (meaning a) (meaning b)) t 2) →
-    record { key = a .key; count = a .count + b .count; top = t; zero = 0; high = high; middle = middle; low = low } ≡ recordOf (combine (meaning a) (meaning b))
+    record { key = a .key; count = a .count + b .count; top = t; reserved = 0; high = high; middle = middle; low = low } ≡ recordOf (combine (meaning a) (meaning b))
 unfolding combine
 joined a b e h m l = rw (h, m, l, e)
 

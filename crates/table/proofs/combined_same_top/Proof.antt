@@ -54,7 +54,7 @@ returns c =
     let h = c .before .before .add-totals .ensures ∙ ap splitOf (sym (same-top-high a b e (parts s .0) (parts s .1)) ∙ ap (λ (n : ℕ). below (bothAt (meaning a) (meaning b)) n 0) t) in
     let m = c .before .add-totals2 .ensures ∙ ap splitOf (sym (same-top-middle a b e (parts s .0) (parts s .1)) ∙ ap (λ (n : ℕ). below (bothAt (meaning a) (meaning b)) n 1) t) in
     let l = c .add-totals3 .ensures ∙ ap splitOf (sym (same-top-low a b e (parts s .0) (parts s .1)) ∙ ap (λ (n : ℕ). below (bothAt (meaning a) (meaning b)) n 2) t) in
-    λ i. record { key = a .key; count = a .count + b .count; top = t i; zero = 0; high = h i; middle = m i; low = l i }
+    λ i. record { key = a .key; count = a .count + b .count; top = t i; reserved = 0; high = h i; middle = m i; low = l i }
 
 pub combined-same-top-spec : {M : Type 1} → statement M
 combined-same-top-spec =

@@ -4,8 +4,8 @@ use native.Mathlib.Nat.{lt-of-lt-of-le, le-trans, le-of-eq}
 use native.Mathlib.Numerals.{add-one}
 use Rattle.limbs.proofs.Nearest.{round-next, round-stay}
 use borrow.Author.Needs.{needs}
-use Rattle.limbs.proofs.round.Statement.{statement}
-use Rattle.limbs.proofs.round.Tie as tie
+use Rattle.limbs.proofs.round_by.Statement.{statement}
+use Rattle.limbs.proofs.round_by.Tie as tie
 
 one-if-requires : tie.Need-one-if-requires
 one-if-requires c κs = search needs
@@ -28,5 +28,5 @@ returns-2 c =
     let e = ap (λ (x : ℕ). a .rest + x) (c .before .one-if .ensures .0) in
     round-stay (a .up) (a .q) (a .rest) (a .half) (le-trans (le-of-eq (sym e)) (c .if1 .left))
 
-pub round-spec : {M : Type 1} → statement M
-round-spec = tie.close (tie.spec one-if-requires add-if1 add-result returns returns-2)
+pub round-by-spec : {M : Type 1} → statement M
+round-by-spec = tie.close (tie.spec one-if-requires add-if1 add-result returns returns-2)
