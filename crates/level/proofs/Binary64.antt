@@ -11,7 +11,7 @@ use lib.Pow as Pow
 use lib.Ieee.{nan, inf, binary64, odd, ofFields, ofBits}
 use lib.Ieee.Exact.{HasValue, odd-sign}
 use lib.Ieee.Scale as Scale
-use Rattle.level.specs.Double.{negative, exponentField, finiteBits, magnitude}
+use Rattle.level.specs.Double.{negative, finiteBits, magnitude}
 
 -- a nonzero number with a leading digit is finite, and so is every other
 odd-finite : (d : ℕ) (s : Bool) (q k l : ℕ) → Scale.finite (odd d s q k l) ≡ true

@@ -110,13 +110,3 @@ given-bound (suc s) z j h =
     given-step (λ (g : ℤ). natAbs g ≤ 2 ^ 39) s z j
     (λ _. nearest-le z (unit s) (2 ^ 39) (unit-pos s) (omega (arith, unit-suc s)))
     (λ _. given-bound s (left z s) j (left-half z s))
-
--- the negative number gives the negative contributions
-pub given-neg : (k : ℕ) (z : ℤ) (j : ℕ) → given k (negℤ z) j ≡ negℤ (given k z j)
-unfolding given
-given-neg zero z j = refl
-given-neg (suc s) z j = go (eqb j s) _ _ (ap (λ (w : ℤ). given s w j) (left-neg z s) ∙ given-neg s (left z s) j)
-  where
-    go : (b : Bool) (x y : ℤ) → x ≡ negℤ y → cond b (nearestTo (negℤ z) (unit s)) x ≡ negℤ (cond b (nearestTo z (unit s)) y)
-    go true x y e = nearest-neg z (unit s) (unit-pos s)
-    go false x y e = e

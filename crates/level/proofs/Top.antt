@@ -1,5 +1,5 @@
 -- The top of a row is the smallest level whose 2^39 units exceed the row's size.
-use mathlib.Core.Path.{_≡_, refl, sym, ap, ap₂, _∙_, subst}
+use mathlib.Core.Path.{_≡_, refl, sym, subst}
 use mathlib.Core.Bool.{Bool, true, false, cond}
 use mathlib.Core.Logic.{inl, inr}
 use Prim.Native.Nat.{ℕ, zero, suc, _+_, _-_, _*_, _/_, _^_, _≤_, _<_, zero-le, suc-le-suc}
@@ -7,16 +7,15 @@ use native.Mathlib.Nat.{le-trans, le-of-eq, ne-of-gt, mul-le-mul-right, eq-zero-
 use native.Mathlib.Omega.{arith}
 use native.Mathlib.Decide.{decLt}
 use lib.Dec.{ltb, lit≤}
-use lib.IntN.{ℤ, pos, negℤ, natAbs}
+use lib.IntN.{pos, natAbs}
 use lib.Arith.{lt-one}
 use lib.Pow.{pow-mono, pow-add, shl-lt}
 use borrow.Author.Tests.{ltb-true, ltb-false}
-use Rattle.level.specs.Double.{negative, exponentField, fraction, significand, magnitude, value}
+use Rattle.level.specs.Double.{exponentField, fraction, significand, magnitude, value}
 use Rattle.level.specs.Level.{unit, topFrom, top, given, contribution}
 use Rattle.level.proofs.Double.{significand-lt, significand-normal, size-subnormal}
-use Rattle.integers.proofs.Laws.{natAbs-neg}
 use Rattle.level.proofs.Signs.{natAbs-signed}
-use Rattle.level.proofs.Given.{unit-suc, given-start, given-above, given-bound, given-neg}
+use Rattle.level.proofs.Given.{unit-suc, given-start, given-above, given-bound}
 
 -- n is below 2^39 units of level t, and of no earlier level from j on
 pub record Least (j n t : ℕ) : Type 0 where
@@ -73,17 +72,6 @@ contribution-above b j h = given-above (suc (top b)) (value b) j h
 pub contribution-bound : (b j : ℕ) → natAbs (contribution b j) ≤ 2 ^ 39
 unfolding contribution
 contribution-bound b j = given-bound (suc (top b)) (value b) j (row-half b)
-
--- two rows of one size have one top, and of opposite values opposite contributions
-top-size : (b c : ℕ) → magnitude b ≡ magnitude c → top b ≡ top c
-unfolding top
-top-size b c e = ap (topFrom 52 0) e
-
-pub contribution-neg : (b c j : ℕ) → value c ≡ negℤ (value b) → contribution c j ≡ negℤ (contribution b j)
-unfolding contribution
-contribution-neg b c j e =
-    let s : magnitude c ≡ magnitude b = sym (natAbs-signed (negative c) (magnitude c)) ∙ ap natAbs e ∙ natAbs-neg (value b) ∙ natAbs-signed (negative b) (magnitude b) in
-    ap₂ (λ (t : ℕ) (z : ℤ). given (suc t) z j) (top-size c b s) e ∙ given-neg (suc (top b)) (value b) j
 
 -- ---- the top by the exponent field
 units-pow : (j : ℕ) → 2 ^ 39 * unit j ≡ 2 ^ (39 + 40 * j)

@@ -1,9 +1,11 @@
 -- `last_record` is the record of the section that is taken away.
-use mathlib.Core.Path.{sym, ap, ap₂, _∙_}
+use Prim.Native.Nat.{_*_}
+use mathlib.Core.Path.{_≡_, sym, ap, ap₂, _∙_}
 use native.Mathlib.Omega.{arith}
 use lib.Arith.{lt-of-le-ne}
 use borrow.Author.Tests.{ltb-false}
 use Rattle.record.specs.declared.Record.{Record}
+use Rattle.record.specs.Layout.{recordAt}
 use Rattle.record.specs.Section.{meaning, recordOf}
 use Rattle.table.specs.Combine.{combine}
 use Rattle.table.specs.Calls.{mostRows}
@@ -46,6 +48,15 @@ get-requires-3 c κs = search needs
 get-requires-4 : tie.Need-get-requires-4
 get-requires-4 c κs = search needs
 
+returns-3 : tie.Need-returns-3
+returns-3 c =
+    let a = c .before .before .before .before .before .before .before .before .before .args in
+    let x : c .before .before .get3 .result ≡ recordAt (a .first .now) (a .e .i * 64) = c .before .before .get3 .ensures in
+    let y : c .before .get4 .result ≡ recordAt (a .second .now) (a .e .j * 64) = c .before .get4 .ensures in
+    c .combined .ensures
+    ∙ ap₂ (λ (x y : Record). recordOf (combine (meaning x) (meaning y))) x y
+    ∙ ap recordOf (sym (of-both (a .first .now) (a .second .now) (a .i) (a .j) (a .e) (c .before .before .before .before .before .if1 .left) (c .before .before .before .if2 .left)))
+
 combined-requires : tie.Need-combined-requires
 combined-requires c κs =
     let s = c .before .before .before .before .before .before .before .before in
@@ -60,13 +71,6 @@ combined-requires c κs =
         omega (arith, count-both (a .first .now) (a .second .now) (a .i) (a .j) (a .e) m n),
       ),
     )
-
-returns-3 : tie.Need-returns-3
-returns-3 c =
-    let a = c .before .before .before .before .before .before .before .before .before .args in
-    c .combined .ensures
-    ∙ ap₂ (λ (x y : Record). recordOf (combine (meaning x) (meaning y))) (c .before .before .get3 .ensures) (c .before .get4 .ensures)
-    ∙ ap recordOf (sym (of-both (a .first .now) (a .second .now) (a .i) (a .j) (a .e) (c .before .before .before .before .before .if1 .left) (c .before .before .before .if2 .left)))
 
 pub last-record-spec : {M : Type 1} → statement M
 last-record-spec =

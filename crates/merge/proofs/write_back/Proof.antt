@@ -38,6 +38,11 @@ last-record-requires c κs =
 sub-k : tie.Need-sub-k Inv-loop μ-loop
 sub-k c = omega (arith, room (c .before .before .before .before .before .loop .inv) (c .before .before .previous .ensures))
 
+loop-again : tie.Need-loop-again Inv-loop μ-loop
+loop-again c =
+    left-less (c .before .before .before .before .before .before .before .before .before .loop .inv) (c .before .before .before .before .before .before .previous .ensures)
+    (c .before .before .before .before .last-record .ensures) (c .before .before .put .ensures .0) (λ k. c .slice-known2 .given k .fits)
+
 put-requires : tie.Need-put-requires Inv-loop μ-loop
 put-requires c κs =
     let v = c .before .before .before .before .before .before .loop .inv in
@@ -45,11 +50,6 @@ put-requires c κs =
 
 loop-less : tie.Need-loop-less Inv-loop μ-loop
 loop-less c = omega (arith, c .before .before .before .before .before .before .previous .ensures .within .fewer)
-
-loop-again : tie.Need-loop-again Inv-loop μ-loop
-loop-again c =
-    left-less (c .before .before .before .before .before .before .before .before .before .loop .inv) (c .before .before .before .before .before .before .previous .ensures)
-    (c .before .before .before .before .last-record .ensures) (c .before .before .put .ensures .0) (λ k. c .slice-known2 .given k .fits)
 
 same-length : tie.Need-same-length Inv-loop μ-loop
 same-length c = c .before .loop .inv .long

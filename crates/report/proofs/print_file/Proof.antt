@@ -1,13 +1,16 @@
 -- `print_file` prints what the columns of an accepted file print, or the file's refusal.
-use Prim.Native.Nat.{ℕ}
+use Prim.Native.Nat.{ℕ, _+_}
 use mathlib.Core.Path.{_≡_, sym, ap, _∙_}
-use mathlib.Core.List.{List}
+use mathlib.Core.List.{List, _++_}
 use native.Mathlib.Omega.{arith}
 use Rattle.refusal.specs.Number.{numberOf}
 use Rattle.columns.specs.declared.Kind.the-variants.{Double}
 use Rattle.patch.specs.File.{readOutcome}
 use Rattle.patch.specs.Answer.{readAnswer}
+use Rattle.numerals.specs.Steps.{Continued}
 use Rattle.numerals.proofs.Texts.{longer}
+use Rattle.report.specs.Text.{refusalText, lineFeed}
+use Rattle.report.specs.Steps.{refusalSize}
 use Rattle.report.proofs.Whole.{file-accepted, file-refused}
 use borrow.Author.Needs.{needs}
 use Rattle.report.proofs.print_file.Statement.{statement}
@@ -63,7 +66,10 @@ returns-2 c =
     let e = c .before .before .before .before .before .before in
     let d = e .before .before in
     let r = e .r .given in
-    rw (file-refused (file d) (numberOf (r .0 .0)) (outcome-here d ∙ ap readAnswer (r .1)), ← c .before .before .before .number-of .ensures) (longer (c .before .before .print-refusal .ensures) (omega arith))
+    let p = c .before .before .print-refusal in
+    let n = c .before .before .before .number-of in
+    let t : Continued (d .before .before .before .args .text .now) 0 (refusalText (n .result) ++ lineFeed) (refusalSize + 1) (p .last .0) (p .result) = p .ensures in
+    rw (file-refused (file d) (numberOf (r .0 .0)) (outcome-here d ∙ ap readAnswer (r .1)), ← n .ensures) (longer t (omega arith))
 
 pub print-file-spec : {M : Type 1} → statement M
 print-file-spec =

@@ -47,6 +47,15 @@ loop-holds c = (omega arith, refl, nothing (c .before .before .args .text .now) 
 get-requires : tie.Need-get-requires Inv-loop μ-loop
 get-requires c κs = let s = c .before .before .before .before .before in omega (arith, inside (s .args .table .now) (s .args .g) (c .before .before .loop .i) (s .pre .1) (omega arith))
 
+loop-again : tie.Need-loop-again Inv-loop μ-loop
+loop-again c =
+    let s = c .before .before .before .before .before .before .before .before .before in
+    let a = s .args in
+    let l = c .before .before .before .before .before .before .loop in
+    let p = c .before .before .print-section in
+    let g : c .before .before .before .get .result ≡ recordAt (a .table .now) (l .i * 64) = c .before .before .before .get .ensures in
+    iteration (a .text .now) (a .at) (a .table .now) (a .g) (l .text) (l .end) (l .i) (p .last .0) (p .result) (s .pre .1) (l .inv) (omega arith) (p .kept .0) (rw g at (p .ensures))
+
 print-section-requires : tie.Need-print-section-requires Inv-loop μ-loop
 print-section-requires c κs =
     let s = c .before .before .before .before .before .before in
@@ -57,14 +66,6 @@ add-i c = omega arith
 
 loop-less : tie.Need-loop-less Inv-loop μ-loop
 loop-less c = omega arith
-
-loop-again : tie.Need-loop-again Inv-loop μ-loop
-loop-again c =
-    let s = c .before .before .before .before .before .before .before .before .before in
-    let a = s .args in
-    let l = c .before .before .before .before .before .before .loop in
-    let p = c .before .before .print-section in
-    iteration (a .text .now) (a .at) (a .table .now) (a .g) (l .text) (l .end) (l .i) (p .last .0) (p .result) (s .pre .1) (l .inv) (omega arith) (p .kept .0) (rw (c .before .before .before .get .ensures) at (p .ensures))
 
 same-length : tie.Need-same-length Inv-loop μ-loop
 same-length c = c .before .loop .inv .1

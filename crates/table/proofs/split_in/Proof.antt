@@ -1,13 +1,14 @@
 -- `split_in` goes through the three levels, as the definition does.
 use Prim.Native.Nat.{_+_}
 use mathlib.Core.Path.{refl}
+use native.Mathlib.Omega.{arith}
 use borrow.Author.Needs.{needs}
 use borrow.Author.Tests.{eq-eqb, ne-eqb}
 use Rattle.table.proofs.split_in.Statement.{statement}
 use Rattle.table.proofs.split_in.Tie as tie
 
 returns : tie.Need-returns
-returns c = let a = c .before .before .before .args in rw (eq-eqb (a .j) (a .r .top) (c .before .if1 .taken))
+returns c = let a = c .before .before .before .args in rw (eq-eqb (a .j) (a .r .top) (omega arith))
 
 add-if2 : tie.Need-add-if2
 add-if2 c = search needs
@@ -23,7 +24,7 @@ add-if3 c = search needs
 returns-3 : tie.Need-returns-3
 returns-3 c =
     let a = c .before .before .before .before .before .before .before .args in
-    rw (ne-eqb (a .j) (a .r .top) (c .before .before .before .before .before .if1 .left), ne-eqb (a .j + 1) (a .r .top) (c .before .before .before .if2 .left), eq-eqb (a .j + 2) (a .r .top) (c .before .if3 .taken)) refl
+    rw (ne-eqb (a .j) (a .r .top) (c .before .before .before .before .before .if1 .left), ne-eqb (a .j + 1) (a .r .top) (c .before .before .before .if2 .left), eq-eqb (a .j + 2) (a .r .top) (omega arith)) refl
 
 nothing-requires : tie.Need-nothing-requires
 nothing-requires c κs = search needs
