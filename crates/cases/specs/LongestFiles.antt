@@ -1,5 +1,4 @@
 -- The longest patch files, apart from the small ones of `patch` since they take long to compute.
-use Prim.Native.Nat.{ℕ}
 use mathlib.Core.Path.{_≡_, refl}
 use mathlib.Core.List.{List, [], _∷_, map}
 use Rattle.codec.specs.Bytes.{number, bytes, numberAt}

@@ -14,9 +14,6 @@ use record::Record;
 use refusal::Refusal;
 use table::TableAnswer;
 
-// The largest row count that a record has room for.
-const MOST_ROWS: u64 = 4294967295;
-
 // How many records of two tables are left, of each.
 pub struct Ends {
     pub i: usize,
@@ -101,7 +98,7 @@ fn united(first: &[u8], g1: usize, second: &[u8], g2: usize) -> Union
     let mut overflow = false;
     while 0 < j {
         let e = previous(first, i, second, j);
-        if MOST_ROWS < last_count(first, i, second, j, e) {
+        if table::MOST_ROWS < last_count(first, i, second, j, e) {
             overflow = true;
         }
         i = e.i;

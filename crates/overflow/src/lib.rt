@@ -13,8 +13,8 @@ ghost use Rattle.table.specs.Calls.{overflows, addSections};
 ghost use Rattle.overflow.specs.Counts.{countIn, countOverflows};
 use record::Place;
 
-// The largest row count that a record has room for.
-const MOST_ROWS: usize = 4294967295;
+// The largest row count, as a number of rows in lent columns.
+const MOST_ROWS: usize = table::MOST_ROWS as usize;
 
 // Whether the rows with the number k, and c that are held, are more than a row count can say. Rows are counted only where there are enough of them.
 fn count_overflows(keys: &[u8], k: u32, c: u32) -> bool

@@ -16,6 +16,9 @@ use level::SplitTotal;
 use record::Record;
 use refusal::Refusal;
 
+// The largest row count that a record has room for.
+pub const MOST_ROWS: u64 = 4294967295;
+
 // What an add or a merge answers: the table's new group count, or why the call is refused.
 pub enum TableAnswer {
     Groups(usize),

@@ -39,9 +39,6 @@ locate-requires c κs =
     let p = sound-parts (s .args .t .now) (s .args .g) (s .pre .0) in
     (p .0, p .2)
 
-enum-known-i : tie.Need-enum-known-i
-enum-known-i c = search needs
-
 combine-at-requires : tie.Need-combine-at-requires
 combine-at-requires c κs =
     let l = c .before .before .before .before in
@@ -52,20 +49,11 @@ combine-at-requires c κs =
       (at-old (given-here l) (i .0 .0) e, (s .pre .1 .1 .0, at-count (given-here l) (i .0 .0) e)),
     )
 
-enum-known-i-2 : tie.Need-enum-known-i-2
-enum-known-i-2 c = search needs
-
 insert-requires : tie.Need-insert-requires
 insert-requires c κs =
     let l = c .before .before .before .before .before in
     let i = c .before .before .before .i2 .given in
     (omega (arith, gap-within (given-here l) (i .0 .0) (place-here l _ (i .1))), omega (arith, c .before .if1 .taken, start l .pre .1 .0 .0, start l .pre .1 .0 .1))
-
-add-t19 : tie.Need-add-t19
-add-t19 c = search needs
-
-same-length : tie.Need-same-length
-same-length c = search needs
 
 returns : tie.Need-returns
 returns c =
@@ -75,9 +63,6 @@ returns c =
     let i = b .before .before .i2 .given in
     gap-holds (given-here l) (i .0 .0) (place-here l _ (i .1)) (n .insert .last .0) (n .insert .kept .0) (omega (arith, b .if1 .taken, start l .pre .1 .0 .0)) (n .insert .ensures)
 
-same-length-2 : tie.Need-same-length-2
-same-length-2 c = search needs
-
 returns-2 : tie.Need-returns-2
 returns-2 c =
     let n = c .before .before in
@@ -85,9 +70,6 @@ returns-2 c =
     let l = d .before .before in
     let i = d .i .given in
     at-holds (given-here l) (i .0 .0) (place-here l _ (i .1)) (n .combine-at .last .0) (n .combine-at .kept .0) (start l .pre .1 .0 .0) (n .combine-at .ensures)
-
-same-length-3 : tie.Need-same-length-3
-same-length-3 c = search needs
 
 returns-3 : tie.Need-returns-3
 returns-3 c =
@@ -98,16 +80,5 @@ returns-3 c =
 pub absorb-record-spec : {M : Type 1} → statement M
 absorb-record-spec =
     tie.close
-    (tie.spec
-    locate-requires
-    enum-known-i
-    combine-at-requires
-    enum-known-i-2
-    insert-requires
-    add-t19
-    same-length
-    returns
-    same-length-2
-    returns-2
-    same-length-3
-    returns-3)
+    (tie.spec locate-requires (λ c. search needs) combine-at-requires (λ c. search needs) insert-requires (λ c. search needs)
+    (λ c. search needs) returns (λ c. search needs) returns-2 (λ c. search needs) returns-3)

@@ -44,19 +44,10 @@ module _ (c : tie.After-row-record) where
       let e = c .before .before .u32-at .ensures in
       subst T (sym (ap soundRecord made-is ∙ sound-record (ofRow row) (row-proper row (omega arith)))) tt
 
-mul-u32-at : tie.Need-mul-u32-at
-mul-u32-at c = search needs
-
-u32-at-requires : tie.Need-u32-at-requires
-u32-at-requires c κs = search needs
-
 value-at-requires : tie.Need-value-at-requires
 value-at-requires c κs =
     let s = c .before .before .before .before in
     value-within (s .args .kind) (s .args .keys .now) (s .args .values .now) (s .pre .1 .1 .0 .0) (s .args .i) (s .pre .1 .1 .0 .1)
-
-row-record-requires : tie.Need-row-record-requires
-row-record-requires c κs = search needs
 
 absorb-record-requires : tie.Need-absorb-record-requires
 absorb-record-requires c κs =
@@ -69,9 +60,6 @@ absorb-record-requires c κs =
       ),
     )
 
-same-length : tie.Need-same-length
-same-length c = search needs
-
 returns : tie.Need-returns
 returns c =
     let a = c .before .before .absorb-record in
@@ -82,11 +70,5 @@ returns c =
 pub absorb-row-spec : {M : Type 1} → statement M
 absorb-row-spec =
     tie.close
-    (tie.spec
-    mul-u32-at
-    u32-at-requires
-    value-at-requires
-    row-record-requires
-    absorb-record-requires
-    same-length
+    (tie.spec (λ c. search needs) (λ c κs. search needs) value-at-requires (λ c κs. search needs) absorb-record-requires (λ c. search needs)
     returns)

@@ -34,32 +34,17 @@ module _ (c : tie.After-get) where
       subst (λ (y : Record). PutAt (start .args .t .now) (start .args .i * 64) y s)
       (e ∙ ap (λ (y : Record). recordOf (combine (meaning y) (meaning (start .args .r)))) (c .get .ensures))
 
-get-requires : tie.Need-get-requires
-get-requires c κs = search needs
-
 combined-same-top-requires : tie.Need-combined-same-top-requires
 combined-same-top-requires c κs = let g = c .before .before .before .before in (old-sound g, (start g .pre .1 .1 .0, (c .before .if1 .taken, few g)))
 
-put-requires : tie.Need-put-requires
-put-requires c κs = search needs
-
 combined-by-level-requires : tie.Need-combined-by-level-requires
 combined-by-level-requires c κs = let g = c .before .before .before .before in (old-sound g, (start g .pre .1 .1 .0, few g))
-
-put-requires-2 : tie.Need-put-requires-2
-put-requires-2 c κs = search needs
-
-same-length : tie.Need-same-length
-same-length c = search needs
 
 returns : tie.Need-returns
 returns c =
     let p = c .before .before in
     let m = p .before .combined-same-top in
     stored-here (p .before .before .before .before .before .before) (m .result) (p .put .last .0) (m .ensures) (p .put .ensures)
-
-same-length-2 : tie.Need-same-length-2
-same-length-2 c = search needs
 
 returns-2 : tie.Need-returns-2
 returns-2 c =
@@ -70,13 +55,5 @@ returns-2 c =
 pub combine-at-spec : {M : Type 1} → statement M
 combine-at-spec =
     tie.close
-    (tie.spec
-    get-requires
-    combined-same-top-requires
-    put-requires
-    combined-by-level-requires
-    put-requires-2
-    same-length
-    returns
-    same-length-2
-    returns-2)
+    (tie.spec (λ c κs. search needs) combined-same-top-requires (λ c κs. search needs) combined-by-level-requires (λ c κs. search needs)
+    (λ c. search needs) returns (λ c. search needs) returns-2)

@@ -28,20 +28,11 @@ same d₀ s n d i inv h k =
 loop-holds : tie.Need-loop-holds Inv-loop μ-loop
 loop-holds c = (omega arith, refl)
 
-shared-slice-read-d : tie.Need-shared-slice-read-d Inv-loop μ-loop
-shared-slice-read-d c = omega arith
-
 slice-write-d : tie.Need-slice-write-d Inv-loop μ-loop
 slice-write-d c =
     let a = c .before .before .before in
     let l = c .before .before .loop in
     omega (arith, same (a .args .d .now) (a .args .s .now) (a .args .n) (l .d) (l .i) (l .inv) (a .pre .0) (a .pre .1))
-
-add-i : tie.Need-add-i Inv-loop μ-loop
-add-i c = omega arith
-
-loop-less : tie.Need-loop-less Inv-loop μ-loop
-loop-less c = omega arith
 
 loop-again : tie.Need-loop-again Inv-loop μ-loop
 loop-again c =
@@ -67,4 +58,4 @@ returns c =
 pub copy-spec : {M : Type 1} → statement M
 copy-spec =
     tie.close
-    (tie.spec Inv-loop μ-loop loop-holds shared-slice-read-d slice-write-d add-i loop-less loop-again same-length returns)
+    (tie.spec Inv-loop μ-loop loop-holds (λ c. omega arith) slice-write-d (λ c. omega arith) (λ c. omega arith) loop-again same-length returns)

@@ -31,21 +31,6 @@ iteration s₀ a e d s j inv h fits =
 loop-holds : tie.Need-loop-holds Inv-loop μ-loop
 loop-holds c = rw sub-self (omega arith, omega arith, refl, refl)
 
-sub-j : tie.Need-sub-j Inv-loop μ-loop
-sub-j c = omega arith
-
-slice-read-s : tie.Need-slice-read-s Inv-loop μ-loop
-slice-read-s c = omega arith
-
-add-s : tie.Need-add-s Inv-loop μ-loop
-add-s c = omega arith
-
-slice-write-s : tie.Need-slice-write-s Inv-loop μ-loop
-slice-write-s c = omega arith
-
-loop-less : tie.Need-loop-less Inv-loop μ-loop
-loop-less c = omega arith
-
 loop-again : tie.Need-loop-again Inv-loop μ-loop
 loop-again c =
     let a = c .before .before .before .args in
@@ -64,15 +49,5 @@ returns c =
 pub move-up-spec : {M : Type 1} → statement M
 move-up-spec =
     tie.close
-    (tie.spec
-    Inv-loop
-    μ-loop
-    loop-holds
-    sub-j
-    slice-read-s
-    add-s
-    slice-write-s
-    loop-less
-    loop-again
-    same-length
-    returns)
+    (tie.spec Inv-loop μ-loop loop-holds (λ c. omega arith) (λ c. omega arith) (λ c. omega arith) (λ c. omega arith) (λ c. omega arith)
+    loop-again same-length returns)

@@ -10,20 +10,8 @@ use borrow.Author.Needs.{needs}
 use Rattle.exports.proofs.girth_figure.Statement.{statement}
 use Rattle.exports.proofs.girth_figure.Tie as tie
 
-figure-requires : tie.Need-figure-requires
-figure-requires c κs = search needs
-
-enum-known-z : tie.Need-enum-known-z
-enum-known-z c = search needs
-
 cast-figure : tie.Need-cast-figure
 cast-figure c = let f : SFits w32 (c .before .z .given .0 .0) = search needs in widens (c .before .z .given .0 .0) f
-
-enum-known-r : tie.Need-enum-known-r
-enum-known-r c = search needs
-
-minus-requires : tie.Need-minus-requires
-minus-requires c κs = search needs
 
 returns : tie.Need-returns
 returns c = let z = c .before .z .given in let o = ap figureAnswer (sym (z .1)) ∙ c .before .before .before .figure .ensures in let f : SFits w32 (z .0 .0) = search needs in (ap (returnsZero) o, widened (z .0 .0) f ∙ ap (writes (pos 0) (λ y. y)) o)
@@ -34,11 +22,4 @@ returns-2 c = let r = c .before .before .r .given in let o = ap figureAnswer (sy
 pub girth-figure-spec : {M : Type 1} → statement M
 girth-figure-spec =
     tie.close
-    (tie.spec
-    figure-requires
-    enum-known-z
-    cast-figure
-    enum-known-r
-    minus-requires
-    returns
-    returns-2)
+    (tie.spec (λ c κs. search needs) (λ c. search needs) cast-figure (λ c. search needs) (λ c κs. search needs) returns returns-2)

@@ -13,26 +13,11 @@ use borrow.Author.Needs.{needs}
 use Rattle.exports.proofs.girth_line.Statement.{statement}
 use Rattle.exports.proofs.girth_line.Tie as tie
 
-line-requires : tie.Need-line-requires
-line-requires c κs = search needs
-
-enum-known-l : tie.Need-enum-known-l
-enum-known-l c = search needs
-
-cast-count : tie.Need-cast-count
-cast-count c = search needs
-
 float-to-bits-bits : tie.Need-float-to-bits-bits
 float-to-bits-bits c = let s = c .before .before .before .before .before .before .before .args in let l = c .before .before .before .l .given in let r = c .before .before .before .before .before .line in number (l .0 .0 .sum) (finite-line (l .0 .0) (s .table .now) (s .g) (s .key) (ap lineAnswer (sym (l .1)) ∙ r .ensures))
 
 cast-figure : tie.Need-cast-figure
 cast-figure c = let z = c .before .before .before .before .before .l .given .0 .0 .figure in let f : SFits w32 z = search needs in widens z f
-
-enum-known-r : tie.Need-enum-known-r
-enum-known-r c = search needs
-
-minus-requires : tie.Need-minus-requires
-minus-requires c κs = search needs
 
 returns : tie.Need-returns
 returns c = let l = c .before .before .before .before .before .l .given in let o = ap lineAnswer (sym (l .1)) ∙ c .before .before .before .before .before .before .before .line .ensures in let f : SFits w32 (l .0 .0 .figure) = search needs in (ap (returnsZero) o, (ap (writes 0 (λ (l : FinishedLine). l .count)) o, (ap (writes 0 (λ (l : FinishedLine). doubleBits (l .sum))) o, widened (l .0 .0 .figure) f ∙ ap (writes (pos 0) (λ (l : FinishedLine). l .figure)) o)))
@@ -43,13 +28,5 @@ returns-2 c = let r = c .before .before .r .given in let o = ap lineAnswer (sym 
 pub girth-line-spec : {M : Type 1} → statement M
 girth-line-spec =
     tie.close
-    (tie.spec
-    line-requires
-    enum-known-l
-    cast-count
-    float-to-bits-bits
-    cast-figure
-    enum-known-r
-    minus-requires
-    returns
-    returns-2)
+    (tie.spec (λ c κs. search needs) (λ c. search needs) (λ c. search needs) float-to-bits-bits cast-figure (λ c. search needs)
+    (λ c κs. search needs) returns returns-2)

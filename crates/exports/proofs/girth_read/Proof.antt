@@ -12,27 +12,6 @@ use borrow.Author.Needs.{needs}
 use Rattle.exports.proofs.girth_read.Statement.{statement}
 use Rattle.exports.proofs.girth_read.Tie as tie
 
-key-start-requires : tie.Need-key-start-requires
-key-start-requires c κs = search needs
-
-value-start-requires : tie.Need-value-start-requires
-value-start-requires c κs = search needs
-
-read-requires : tie.Need-read-requires
-read-requires c κs = search needs
-
-enum-known-n : tie.Need-enum-known-n
-enum-known-n c = search needs
-
-cast-result : tie.Need-cast-result
-cast-result c = search needs
-
-enum-known-r : tie.Need-enum-known-r
-enum-known-r c = search needs
-
-minus-requires : tie.Need-minus-requires
-minus-requires c κs = search needs
-
 returns : tie.Need-returns
 returns c =
     let f = c .before .before .before .before .before .before .before .args .file .now in
@@ -55,13 +34,5 @@ returns-2 c =
 pub girth-read-spec : {M : Type 1} → statement M
 girth-read-spec =
     tie.close
-    (tie.spec
-    key-start-requires
-    value-start-requires
-    read-requires
-    enum-known-n
-    cast-result
-    enum-known-r
-    minus-requires
-    returns
-    returns-2)
+    (tie.spec (λ c κs. search needs) (λ c κs. search needs) (λ c κs. search needs) (λ c. search needs) (λ c. search needs)
+    (λ c. search needs) (λ c κs. search needs) returns returns-2)

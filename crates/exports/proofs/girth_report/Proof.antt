@@ -10,12 +10,6 @@ use borrow.Author.Needs.{needs}
 use Rattle.exports.proofs.girth_report.Statement.{statement}
 use Rattle.exports.proofs.girth_report.Tie as tie
 
-report-requires : tie.Need-report-requires
-report-requires c κs = search needs
-
-enum-known-n : tie.Need-enum-known-n
-enum-known-n c = search needs
-
 -- the call's arguments, before the report
 abbrev start : tie.After-report → tie.Start
 start c = c .before .before .before .before
@@ -33,12 +27,6 @@ cast-result c =
     let most = printed-fits (s .out .now) (reportText (s .file .now)) (n .0 .0) o in
     search needs
 
-enum-told : tie.Need-enum-told
-enum-told c = search needs
-
-same-length : tie.Need-same-length
-same-length c = search needs
-
 returns : tie.Need-returns
 returns c =
     let s = start (c .before .before .before .before .before) .args in
@@ -46,9 +34,6 @@ returns c =
     let o = ap printedAnswer (sym (n .1)) ∙ c .before .before .before .before .before .report .ensures .0 in
     let most = printed-fits (s .out .now) (reportText (s .file .now)) (n .0 .0) o in
     (toZ-pos w64 (n .0 .0) (omega arith) ∙ ap (returnsCount) o, bytes (c .before .before .before .before .before))
-
-same-length-2 : tie.Need-same-length-2
-same-length-2 c = search needs
 
 returns-2 : tie.Need-returns-2
 returns-2 c =
@@ -58,12 +43,5 @@ returns-2 c =
 pub girth-report-spec : {M : Type 1} → statement M
 girth-report-spec =
     tie.close
-    (tie.spec
-    report-requires
-    enum-known-n
-    cast-result
-    enum-told
-    same-length
-    returns
-    same-length-2
+    (tie.spec (λ c κs. search needs) (λ c. search needs) cast-result (λ c. search needs) (λ c. search needs) returns (λ c. search needs)
     returns-2)

@@ -11,32 +11,8 @@ use borrow.Author.Needs.{needs}
 use Rattle.exports.proofs.girth_sum.Statement.{statement}
 use Rattle.exports.proofs.girth_sum.Tie as tie
 
-sum-requires : tie.Need-sum-requires
-sum-requires c κs = search needs
-
-enum-known-x : tie.Need-enum-known-x
-enum-known-x c = search needs
-
 float-to-bits-bits : tie.Need-float-to-bits-bits
 float-to-bits-bits c = let s = c .before .before .before .before .before .args in let x = c .before .x .given in let r = c .before .before .before .sum in number (x .0 .0) (subst FiniteSum (x .1) (finite-outcome (r .result) (s .table .now) (s .g) (s .key) (r .ensures)))
-
-enum-told : tie.Need-enum-told
-enum-told c = search needs
-
-minus-requires : tie.Need-minus-requires
-minus-requires c κs = search needs
-
-enum-told-2 : tie.Need-enum-told-2
-enum-told-2 c = search needs
-
-minus-requires-2 : tie.Need-minus-requires-2
-minus-requires-2 c κs = search needs
-
-enum-told-3 : tie.Need-enum-told-3
-enum-told-3 c = search needs
-
-minus-requires-3 : tie.Need-minus-requires-3
-minus-requires-3 c κs = search needs
 
 returns : tie.Need-returns
 returns c = let x = c .before .x .given in let o = ap sumAnswer (sym (x .1)) ∙ c .before .before .before .sum .ensures in (ap (returnsZero) o, ap (writes 0 doubleBits) o)
@@ -53,17 +29,5 @@ returns-4 c = let o = ap sumAnswer (sym (c .before .enum-told3 .given .1)) ∙ c
 pub girth-sum-spec : {M : Type 1} → statement M
 girth-sum-spec =
     tie.close
-    (tie.spec
-    sum-requires
-    enum-known-x
-    float-to-bits-bits
-    enum-told
-    minus-requires
-    enum-told-2
-    minus-requires-2
-    enum-told-3
-    minus-requires-3
-    returns
-    returns-2
-    returns-3
-    returns-4)
+    (tie.spec (λ c κs. search needs) (λ c. search needs) float-to-bits-bits (λ c. search needs) (λ c κs. search needs) (λ c. search needs)
+    (λ c κs. search needs) (λ c. search needs) (λ c κs. search needs) returns returns-2 returns-3 returns-4)

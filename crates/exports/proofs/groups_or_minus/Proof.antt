@@ -12,17 +12,8 @@ use borrow.Author.Needs.{needs}
 use Rattle.exports.proofs.groups_or_minus.Statement.{statement}
 use Rattle.exports.proofs.groups_or_minus.Tie as tie
 
-enum-known-a : tie.Need-enum-known-a
-enum-known-a c = search needs
-
 cast-result : tie.Need-cast-result
 cast-result c = let g = c .before .a .given in let small = c .before .before .before .pre (g .0 .0) (ap tableAnswer (g .1)) in search needs
-
-enum-known-a-2 : tie.Need-enum-known-a-2
-enum-known-a-2 c = search needs
-
-minus-requires : tie.Need-minus-requires
-minus-requires c κs = search needs
 
 returns : tie.Need-returns
 returns c = let g = c .before .a .given in let small = c .before .before .before .pre (g .0 .0) (ap tableAnswer (g .1)) in toZ-pos w64 (g .0 .0) (omega arith) ∙ ap (λ (a : TableAnswer). returnsCount (tableAnswer a)) (sym (g .1))
@@ -32,4 +23,4 @@ returns-2 c = let g = c .before .before .a2 .given in let f : SFits w64 (c .minu
 
 pub groups-or-minus-spec : {M : Type 1} → statement M
 groups-or-minus-spec =
-    tie.close (tie.spec enum-known-a cast-result enum-known-a-2 minus-requires returns returns-2)
+    tie.close (tie.spec (λ c. search needs) cast-result (λ c. search needs) (λ c κs. search needs) returns returns-2)

@@ -20,12 +20,5 @@ returns-3 c = finished _ _ _ _ (c .before .before .look-up .ensures) figureOf _ 
 pub figure-spec : {M : Type 1} → statement M
 figure-spec =
     tie.close
-    (tie.spec
-    (λ c κs. search needs)
-    (λ c. search needs)
-    record-figure-requires
-    (λ c. search needs)
-    (λ c. search needs)
-    returns
-    returns-2
+    (tie.spec (λ c κs. search needs) (λ c. search needs) record-figure-requires (λ c. search needs) (λ c. search needs) returns returns-2
     returns-3)

@@ -21,30 +21,15 @@ holds c = subst (λ (b : Bool). T b) (sym (c .good .0 .1)) tt
 float-to-bits-bits : tie.Need-float-to-bits-bits
 float-to-bits-bits c = number (c .args .sum) (c .pre)
 
-exponent-field-requires : tie.Need-exponent-field-requires
-exponent-field-requires c κs = search needs
-
 returns : tie.Need-returns
 returns c =
     let s = c .before .before in
     far-figure (s .args .sum) (holds s) (s .pre) (lt-of-lt-of-le (c .if1 .taken) (le-of-eq (c .before .exponent-field .ensures)))
 
-is-negative-requires : tie.Need-is-negative-requires
-is-negative-requires c κs = search needs
-
-significand-requires : tie.Need-significand-requires
-significand-requires c κs = search needs
-
-places-requires : tie.Need-places-requires
-places-requires c κs = search needs
-
 nearest-hundredths-requires : tie.Need-nearest-hundredths-requires
 nearest-hundredths-requires c κs =
     let b = toBits binary64 (c .before .before .before .before .before .args .sum) in
     (lt-of-le-of-lt (le-of-eq (c .before .significand .ensures)) (significand-lt b), c .places .ensures .1)
-
-figure-of-size-requires : tie.Need-figure-of-size-requires
-figure-of-size-requires c κs = search needs
 
 returns-2 : tie.Need-returns-2
 returns-2 c =
@@ -64,13 +49,5 @@ returns-2 c =
 pub figure-of-spec : {M : Type 1} → statement M
 figure-of-spec =
     tie.close
-    (tie.spec
-    float-to-bits-bits
-    exponent-field-requires
-    returns
-    is-negative-requires
-    significand-requires
-    places-requires
-    nearest-hundredths-requires
-    figure-of-size-requires
-    returns-2)
+    (tie.spec float-to-bits-bits (λ c κs. search needs) returns (λ c κs. search needs) (λ c κs. search needs) (λ c κs. search needs)
+    nearest-hundredths-requires (λ c κs. search needs) returns-2)

@@ -6,20 +6,14 @@ use Rattle.finish.proofs.figure_of_size.Tie as tie
 returns : tie.Need-returns
 returns c = figure-beyond (c .before .args .negative) (c .before .args .n) (c .if1 .taken)
 
-cast-t5 : tie.Need-cast-t5
-cast-t5 c = search needs
-
 sub-t6 : tie.Need-sub-t6
 sub-t6 c = minus-fits (c .before .before .args .n) (c .before .if1 .left)
 
 returns-2 : tie.Need-returns-2
 returns-2 c = figure-minus (c .before .before .args .negative) (c .before .before .args .n) (c .before .if1 .left) (c .if2 .taken)
 
-cast-t7 : tie.Need-cast-t7
-cast-t7 c = search needs
-
 returns-3 : tie.Need-returns-3
 returns-3 c = figure-plus (c .before .before .args .negative) (c .before .before .args .n) (c .before .if1 .left) (c .if2 .left)
 
 pub figure-of-size-spec : {M : Type 1} → statement M
-figure-of-size-spec = tie.close (tie.spec returns cast-t5 sub-t6 returns-2 cast-t7 returns-3)
+figure-of-size-spec = tie.close (tie.spec returns (λ c. search needs) sub-t6 returns-2 (λ c. search needs) returns-3)

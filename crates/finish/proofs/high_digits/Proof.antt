@@ -7,15 +7,6 @@ use borrow.Author.Needs.{needs}
 use Rattle.finish.proofs.high_digits.Statement.{statement}
 use Rattle.finish.proofs.high_digits.Tie as tie
 
-raised-carry-requires : tie.Need-raised-carry-requires
-raised-carry-requires c κs = search needs
-
-mul-result : tie.Need-mul-result
-mul-result c = search needs
-
-add-result : tie.Need-add-result
-add-result c = search needs
-
 returns : tie.Need-returns
 returns c =
     let h = c .before .before .before .args .h in
@@ -24,4 +15,4 @@ returns c =
     (high-lt _ _ (n .0) (c .raised-carry .ensures .1), high-same (h .residue) (c .raised-carry .result) ∙ ap (λ (x : ℕ). h .residue + carryBase * x) e)
 
 pub high-digits-spec : {M : Type 1} → statement M
-high-digits-spec = tie.close (tie.spec raised-carry-requires mul-result add-result returns)
+high-digits-spec = tie.close (tie.spec (λ c κs. search needs) (λ c. search needs) (λ c. search needs) returns)

@@ -6,20 +6,8 @@ use borrow.Author.Needs.{needs}
 use Rattle.finish.proofs.line_by.Statement.{statement}
 use Rattle.finish.proofs.line_by.Tie as tie
 
-enum-known-sum : tie.Need-enum-known-sum
-enum-known-sum c = search needs
-
 line-of-requires : tie.Need-line-of-requires
 line-of-requires c κs = subst FiniteSum (c .before .sum .given .1) (c .before .before .before .pre)
-
-enum-told : tie.Need-enum-told
-enum-told c = search needs
-
-enum-told-2 : tie.Need-enum-told-2
-enum-told-2 c = search needs
-
-enum-told-3 : tie.Need-enum-told-3
-enum-told-3 c = search needs
 
 returns : tie.Need-returns
 returns c =
@@ -44,13 +32,5 @@ returns-4 c =
 pub line-by-spec : {M : Type 1} → statement M
 line-by-spec =
     tie.close
-    (tie.spec
-    enum-known-sum
-    line-of-requires
-    enum-told
-    enum-told-2
-    enum-told-3
-    returns
-    returns-2
-    returns-3
+    (tie.spec (λ c. search needs) line-of-requires (λ c. search needs) (λ c. search needs) (λ c. search needs) returns returns-2 returns-3
     returns-4)

@@ -11,15 +11,6 @@ use borrow.Author.Needs.{needs}
 use Rattle.finish.proofs.line_of.Statement.{statement}
 use Rattle.finish.proofs.line_of.Tie as tie
 
-figure-of-requires : tie.Need-figure-of-requires
-figure-of-requires c κs = search needs
-
-enum-known-figure : tie.Need-enum-known-figure
-enum-known-figure c = search needs
-
-enum-known-r : tie.Need-enum-known-r
-enum-known-r c = search needs
-
 returns : tie.Need-returns
 returns c =
     let a = c .before .before .before .before .args in
@@ -35,4 +26,4 @@ returns-2 c =
 
 pub line-of-spec : {M : Type 1} → statement M
 line-of-spec =
-    tie.close (tie.spec figure-of-requires enum-known-figure enum-known-r returns returns-2)
+    tie.close (tie.spec (λ c κs. search needs) (λ c. search needs) (λ c. search needs) returns returns-2)

@@ -16,9 +16,6 @@ use borrow.Author.Needs.{needs}
 use Rattle.finish.proofs.look_up.Statement.{statement}
 use Rattle.finish.proofs.look_up.Tie as tie
 
-is-sound-requires : tie.Need-is-sound-requires
-is-sound-requires c κs = search needs
-
 is-true : (c : tie.Else1) → sound (now (c .before .before .before .args .table)) (c .before .before .before .args .g) ≡ true
 is-true c = sym (c .before .is-sound .ensures) ∙ not-false (c .before .is-sound .result) (c .if1 .left)
 
@@ -40,14 +37,8 @@ returns c = sym (c .before .is-sound .ensures) ∙ not-true (c .before .is-sound
 binary-search-requires : tie.Need-binary-search-requires
 binary-search-requires c κs = let p = sound-parts (now (c .before .before .before .args .table)) (c .before .before .before .args .g) (holds c) in (p .0, p .2)
 
-enum-known-i : tie.Need-enum-known-i
-enum-known-i c = search needs
-
 get-requires : tie.Need-get-requires
 get-requires c κs = at c .0
-
-enum-told : tie.Need-enum-told
-enum-told c = search needs
 
 returns-2 : tie.Need-returns-2
 returns-2 c =
@@ -64,12 +55,5 @@ returns-3 c =
 pub look-up-spec : {M : Type 1} → statement M
 look-up-spec =
     tie.close
-    (tie.spec
-    is-sound-requires
-    returns
-    binary-search-requires
-    enum-known-i
-    get-requires
-    enum-told
-    returns-2
+    (tie.spec (λ c κs. search needs) returns binary-search-requires (λ c. search needs) get-requires (λ c. search needs) returns-2
     returns-3)

@@ -13,21 +13,6 @@ use Rattle.finish.proofs.nearest_hundredths.Tie as tie
 returns : tie.Need-returns
 returns c = hundredths-zero (λ (q : ℕ). not (c .before .args .negative)) (c .before .args .m) (c .before .args .r) (c .before .pre .0) (c .if1 .taken)
 
-mul-n : tie.Need-mul-n
-mul-n c = search needs
-
-shr-round-by : tie.Need-shr-round-by
-shr-round-by c = search needs
-
-last-digits-requires : tie.Need-last-digits-requires
-last-digits-requires c κs = search needs
-
-sub-power : tie.Need-sub-power
-sub-power c = search needs
-
-power-requires : tie.Need-power-requires
-power-requires c κs = search needs
-
 round-by-requires : tie.Need-round-by-requires
 round-by-requires c κs =
     let s = c .before .before .before in
@@ -46,12 +31,5 @@ returns-2 c =
 pub nearest-hundredths-spec : {M : Type 1} → statement M
 nearest-hundredths-spec =
     tie.close
-    (tie.spec
-    returns
-    mul-n
-    shr-round-by
-    last-digits-requires
-    sub-power
-    power-requires
-    round-by-requires
-    returns-2)
+    (tie.spec returns (λ c. search needs) (λ c. search needs) (λ c κs. search needs) (λ c. search needs) (λ c κs. search needs)
+    round-by-requires returns-2)

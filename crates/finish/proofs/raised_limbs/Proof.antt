@@ -3,24 +3,6 @@ use borrow.Author.Needs.{needs}
 use Rattle.finish.proofs.raised_limbs.Statement.{statement}
 use Rattle.finish.proofs.raised_limbs.Tie as tie
 
-high-digits-requires : tie.Need-high-digits-requires
-high-digits-requires c κs = search needs
-
-add-t7 : tie.Need-add-t7
-add-t7 c = search needs
-
-high-digits-requires-2 : tie.Need-high-digits-requires-2
-high-digits-requires-2 c κs = search needs
-
-add-t10 : tie.Need-add-t10
-add-t10 c = search needs
-
-high-digits-requires-3 : tie.Need-high-digits-requires-3
-high-digits-requires-3 c κs = search needs
-
-propagate-requires : tie.Need-propagate-requires
-propagate-requires c κs = search needs
-
 returns : tie.Need-returns
 returns c =
     let hx = c .before .high-digits3 .ensures in
@@ -32,11 +14,5 @@ returns c =
 pub raised-limbs-spec : {M : Type 1} → statement M
 raised-limbs-spec =
     tie.close
-    (tie.spec
-    high-digits-requires
-    add-t7
-    high-digits-requires-2
-    add-t10
-    high-digits-requires-3
-    propagate-requires
-    returns)
+    (tie.spec (λ c κs. search needs) (λ c. search needs) (λ c κs. search needs) (λ c. search needs) (λ c κs. search needs)
+    (λ c κs. search needs) returns)

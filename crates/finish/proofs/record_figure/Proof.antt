@@ -7,9 +7,6 @@ use Rattle.finish.proofs.Outcomes.{finite-for, sum-for, figure-by}
 use Rattle.finish.proofs.record_figure.Statement.{statement}
 use Rattle.finish.proofs.record_figure.Tie as tie
 
-record-sum-requires : tie.Need-record-sum-requires
-record-sum-requires c κs = search needs
-
 figure-by-requires : tie.Need-figure-by-requires
 figure-by-requires c κs = subst FiniteSum (sym (c .record-sum .ensures)) (finite-for (kept (meaning (c .before .args .r))))
 
@@ -19,4 +16,4 @@ returns c =
     c .figure-by .ensures ∙ ap figureBy (ap sumAnswer (c .before .record-sum .ensures) ∙ sum-for m) ∙ sym (figure-by m)
 
 pub record-figure-spec : {M : Type 1} → statement M
-record-figure-spec = tie.close (tie.spec record-sum-requires figure-by-requires returns)
+record-figure-spec = tie.close (tie.spec (λ c κs. search needs) figure-by-requires returns)

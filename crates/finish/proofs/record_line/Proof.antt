@@ -8,9 +8,6 @@ use Rattle.finish.proofs.Outcomes.{finite-for, sum-for, line-by}
 use Rattle.finish.proofs.record_line.Statement.{statement}
 use Rattle.finish.proofs.record_line.Tie as tie
 
-record-sum-requires : tie.Need-record-sum-requires
-record-sum-requires c κs = search needs
-
 line-by-requires : tie.Need-line-by-requires
 line-by-requires c κs = subst FiniteSum (sym (c .record-sum .ensures)) (finite-for (kept (meaning (c .before .args .r))))
 
@@ -24,4 +21,4 @@ returns c =
     ∙ sym (line-by m)
 
 pub record-line-spec : {M : Type 1} → statement M
-record-line-spec = tie.close (tie.spec record-sum-requires line-by-requires returns)
+record-line-spec = tie.close (tie.spec (λ c κs. search needs) line-by-requires returns)

@@ -37,15 +37,6 @@ raised-limbs-requires c κs =
     let p = sound-record-parts r (c .pre) in
     (total-range (r .count) (r .high) (p .high) (few c), (total-range (r .count) (r .middle) (p .middle) (few c), total-range (r .count) (r .low) (p .low) (few c)))
 
-raise-requires : tie.Need-raise-requires
-raise-requires c κs = search needs
-
-abs-diff-requires : tie.Need-abs-diff-requires
-abs-diff-requires c κs = search needs
-
-is-zero-requires : tie.Need-is-zero-requires
-is-zero-requires c κs = search needs
-
 returns : tie.Need-returns
 returns c =
     let d = c .before .before .before in
@@ -54,12 +45,6 @@ returns c =
     let e : v ≡ 0 = eqb-true v 0 (sym (c .before .is-zero .ensures) ∙ c .if1 .taken) in
     let n = no-sign v (d .abs-diff .result .negative) _ _ e (d .abs-diff .ensures .1) in
     answer-zero (value d) (no-size (natAbs (value d)) v _ (k .0) e) (k .1 ∙ n)
-
-cast-nearest-bits : tie.Need-cast-nearest-bits
-cast-nearest-bits c = search needs
-
-mul-nearest-bits : tie.Need-mul-nearest-bits
-mul-nearest-bits c = search needs
 
 nearest-bits-requires : tie.Need-nearest-bits-requires
 nearest-bits-requires c κs =
@@ -74,9 +59,6 @@ nearest-bits-requires c κs =
       ),
     )
 
-sum-of-bits-requires : tie.Need-sum-of-bits-requires
-sum-of-bits-requires c κs = search needs
-
 returns-2 : tie.Need-returns-2
 returns-2 c =
     let d = c .before .before .before .before .before .before in
@@ -90,14 +72,5 @@ returns-2 c =
 pub record-sum-spec : {M : Type 1} → statement M
 record-sum-spec =
     tie.close
-    (tie.spec
-    raised-limbs-requires
-    raise-requires
-    abs-diff-requires
-    is-zero-requires
-    returns
-    cast-nearest-bits
-    mul-nearest-bits
-    nearest-bits-requires
-    sum-of-bits-requires
-    returns-2)
+    (tie.spec raised-limbs-requires (λ c κs. search needs) (λ c κs. search needs) (λ c κs. search needs) returns (λ c. search needs)
+    (λ c. search needs) nearest-bits-requires (λ c κs. search needs) returns-2)

@@ -22,12 +22,5 @@ returns-3 c = finished _ _ _ _ (c .before .before .look-up .ensures) sumOf _ (c 
 pub sum-spec : {M : Type 1} → statement M
 sum-spec =
     tie.close
-    (tie.spec
-    (λ c κs. search needs)
-    (λ c. search needs)
-    record-sum-requires
-    (λ c. search needs)
-    (λ c. search needs)
-    returns
-    returns-2
+    (tie.spec (λ c κs. search needs) (λ c. search needs) record-sum-requires (λ c. search needs) (λ c. search needs) returns returns-2
     returns-3)

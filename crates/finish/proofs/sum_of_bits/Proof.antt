@@ -6,9 +6,6 @@ use Rattle.finish.proofs.sum_of_bits.Tie as tie
 returns : tie.Need-returns
 returns c = bits-large (c .before .args .bits) (c .before .args .negative) (c .if1 .taken)
 
-set-sign-requires : tie.Need-set-sign-requires
-set-sign-requires c κs = search needs
-
 float-from-bits-t6 : tie.Need-float-from-bits-t6
 float-from-bits-t6 c = rw (c .set-sign .ensures) (negative-number (c .before .before .before .args .bits) (c .before .before .if1 .left))
 
@@ -24,4 +21,4 @@ returns-3 c = bits-positive (c .before .before .args .bits) (c .before .before .
 pub sum-of-bits-spec : {M : Type 1} → statement M
 sum-of-bits-spec =
     tie.close
-    (tie.spec returns set-sign-requires float-from-bits-t6 returns-2 float-from-bits-t7 returns-3)
+    (tie.spec returns (λ c κs. search needs) float-from-bits-t6 returns-2 float-from-bits-t7 returns-3)

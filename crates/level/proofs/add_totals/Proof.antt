@@ -26,15 +26,6 @@ module _ (x y p o : ℤ) (n : ℕ) (hx : natAbs x < 2 ^ 61) (hy : natAbs y < 2 ^
   second : toZ w64 (ofZ w64 p) +ℤ toZ w64 (ofZ w64 o) ≡ x +ℤ y +ℤ pos n
   second = let k : natAbs o < 2 ^ 60 = omega (arith, ap natAbs eo) in ap₂ _+ℤ_ (back p (omega (arith, first-small)) ∙ first) (back o (omega arith) ∙ eo)
 
-add-sum : tie.Need-add-sum
-add-sum c = search needs
-
-with-sign-requires : tie.Need-with-sign-requires
-with-sign-requires c κs = search needs
-
-last-digits-requires : tie.Need-last-digits-requires
-last-digits-requires c κs = search needs
-
 plus-requires : tie.Need-plus-requires
 plus-requires c κs =
     let s = c .before .before .before .before .before .before in
@@ -61,10 +52,4 @@ returns c =
 pub add-totals-spec : {M : Type 1} → statement M
 add-totals-spec =
     tie.close
-    (tie.spec
-    add-sum
-    with-sign-requires
-    last-digits-requires
-    plus-requires
-    plus-requires-2
-    returns)
+    (tie.spec (λ c. search needs) (λ c κs. search needs) (λ c κs. search needs) plus-requires plus-requires-2 returns)

@@ -22,18 +22,6 @@ use Rattle.level.proofs.Descent.{scaled, row-scaled}
 use Rattle.level.proofs.contributions_of.Statement.{statement}
 use Rattle.level.proofs.contributions_of.Tie as tie
 
-top-level-requires : tie.Need-top-level-requires
-top-level-requires c κs = search needs
-
-shift-requires : tie.Need-shift-requires
-shift-requires c κs = search needs
-
-is-negative-requires : tie.Need-is-negative-requires
-is-negative-requires c κs = search needs
-
-significand-requires : tie.Need-significand-requires
-significand-requires c κs = search needs
-
 cut-at-requires : tie.Need-cut-at-requires
 cut-at-requires c κs = let b = c .before .before .before .before .args .bits in omega (arith, significand-lt b, top-place b)
 
@@ -41,12 +29,6 @@ lower-two-requires : tie.Need-lower-two-requires
 lower-two-requires c κs =
     let d = c .before .before .before .shift .result in
     omega (arith, rest-half (c .before .significand .result) (2 ^ d) (pow-pos d), top-place (c .before .before .before .before .before .args .bits))
-
-flipped-if-requires : tie.Need-flipped-if-requires
-flipped-if-requires c κs = search needs
-
-flipped-if-requires-2 : tie.Need-flipped-if-requires-2
-flipped-if-requires-2 c κs = search needs
 
 cast-t10 : tie.Need-cast-t10
 cast-t10 c = omega (arith, top-le (c .before .before .before .before .before .before .before .before .args .bits))
@@ -108,17 +90,5 @@ returns c =
 pub contributions-of-spec : {M : Type 1} → statement M
 contributions-of-spec =
     tie.close
-    (tie.spec
-    top-level-requires
-    shift-requires
-    is-negative-requires
-    significand-requires
-    cut-at-requires
-    lower-two-requires
-    flipped-if-requires
-    flipped-if-requires-2
-    cast-t10
-    with-sign-requires
-    with-sign-requires-2
-    with-sign-requires-3
-    returns)
+    (tie.spec (λ c κs. search needs) (λ c κs. search needs) (λ c κs. search needs) (λ c κs. search needs) cut-at-requires lower-two-requires
+    (λ c κs. search needs) (λ c κs. search needs) cast-t10 with-sign-requires with-sign-requires-2 with-sign-requires-3 returns)

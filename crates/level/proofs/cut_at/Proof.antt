@@ -12,15 +12,6 @@ use borrow.Author.Needs.{needs}
 use Rattle.level.proofs.cut_at.Statement.{statement}
 use Rattle.level.proofs.cut_at.Tie as tie
 
-nearest-requires : tie.Need-nearest-requires
-nearest-requires c κs = search needs
-
-shl-whole : tie.Need-shl-whole
-shl-whole c = search needs
-
-sub-t7 : tie.Need-sub-t7
-sub-t7 c = search needs
-
 -- the shifted units, and the two sides of the test
 module _ (n x d : ℕ) (e : n ≡ closest x (2 ^ d)) (h : (x < 2 ^ 53) × (d < 54)) where
   whole : n * 2 ^ d % 2 ^ 64 ≡ closest x (2 ^ d) * 2 ^ d
@@ -39,4 +30,4 @@ returns-2 : tie.Need-returns-2
 returns-2 c = less (c .before .nearest .result) (c .before .before .args .x) (c .before .before .args .d) (c .before .nearest .ensures) (c .before .before .pre) (c .if1 .left)
 
 pub cut-at-spec : {M : Type 1} → statement M
-cut-at-spec = tie.close (tie.spec nearest-requires shl-whole sub-t7 returns returns-2)
+cut-at-spec = tie.close (tie.spec (λ c κs. search needs) (λ c. search needs) (λ c. search needs) returns returns-2)

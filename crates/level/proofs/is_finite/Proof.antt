@@ -3,11 +3,8 @@ use borrow.Author.Needs.{needs}
 use Rattle.level.proofs.is_finite.Statement.{statement}
 use Rattle.level.proofs.is_finite.Tie as tie
 
-exponent-field-requires : tie.Need-exponent-field-requires
-exponent-field-requires c κs = search needs
-
 returns : tie.Need-returns
 returns c = cc
 
 pub is-finite-spec : {M : Type 1} → statement M
-is-finite-spec = tie.close (tie.spec exponent-field-requires returns)
+is-finite-spec = tie.close (tie.spec (λ c κs. search needs) returns)

@@ -8,9 +8,6 @@ use borrow.Author.Needs.{needs}
 use Rattle.level.proofs.last_digits.Statement.{statement}
 use Rattle.level.proofs.last_digits.Tie as tie
 
-power-requires : tie.Need-power-requires
-power-requires c κs = search needs
-
 sub-result : tie.Need-sub-result
 sub-result c = omega (arith, pow-pos (c .before .args .d))
 
@@ -18,4 +15,4 @@ returns : tie.Need-returns
 returns c = ap (λ (p : ℕ). bitAnd (c .before .args .x) (p - 1)) (c .power .ensures) ∙ and-mask (c .before .args .x) (c .before .args .d)
 
 pub last-digits-spec : {M : Type 1} → statement M
-last-digits-spec = tie.close (tie.spec power-requires sub-result returns)
+last-digits-spec = tie.close (tie.spec (λ c κs. search needs) sub-result returns)

@@ -46,23 +46,11 @@ module _ (r d : ℕ) (h : (r * 2 ≤ 2 ^ d) × (d < 54)) where
             ∙ sym (closest-whole (m * 2 ^ (80 - d)) (2 ^ d) (pow-pos d)) ∙ ap (λ (y : ℕ). closest y (2 ^ d)) (omega arith),
       )
 
-shl-t6 : tie.Need-shl-t6
-shl-t6 c = search needs
-
 returns : tie.Need-returns
 returns c = short (c .before .args .rest) (c .before .args .d) (c .before .pre) (c .if1 .taken)
 
-sub-cut-at : tie.Need-sub-cut-at
-sub-cut-at c = search needs
-
 cut-at-requires : tie.Need-cut-at-requires
 cut-at-requires c κs = let h : 2 ^ c .before .args .d ≤ 2 ^ 53 = pow-mono {j = 53} (omega arith) in omega arith
-
-sub-t7 : tie.Need-sub-t7
-sub-t7 c = search needs
-
-shl-t8 : tie.Need-shl-t8
-shl-t8 c = search needs
 
 returns-2 : tie.Need-returns-2
 returns-2 c =
@@ -72,4 +60,4 @@ returns-2 c =
 
 pub lower-two-spec : {M : Type 1} → statement M
 lower-two-spec =
-    tie.close (tie.spec shl-t6 returns sub-cut-at cut-at-requires sub-t7 shl-t8 returns-2)
+    tie.close (tie.spec (λ c. search needs) returns (λ c. search needs) cut-at-requires (λ c. search needs) (λ c. search needs) returns-2)

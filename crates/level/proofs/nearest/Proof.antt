@@ -18,29 +18,14 @@ returns c =
     let a = c .before .args in
     sym (ap (λ (d : ℕ). closest (a .x) (2 ^ d)) (c .if1 .taken) ∙ closest-one (a .x))
 
-sub-power : tie.Need-sub-power
-sub-power c = search needs
-
-power-requires : tie.Need-power-requires
-power-requires c κs = search needs
-
 sub-below-half : tie.Need-sub-below-half
 sub-below-half c = let s = c .before .before in omega (arith, half-bound (s .args .d) (s .pre .1))
 
 add-result : tie.Need-add-result
 add-result c = let s = c .before .before in omega (arith, half-bound (s .args .d) (s .pre .1))
 
-shr-parity : tie.Need-shr-parity
-shr-parity c = search needs
-
-parity-requires : tie.Need-parity-requires
-parity-requires c κs = search needs
-
 add-result-2 : tie.Need-add-result-2
 add-result-2 c = let s = c .before .before .before in omega (arith, half-bound (s .args .d) (s .pre .1))
-
-shr-result : tie.Need-shr-result
-shr-result c = search needs
 
 returns-2 : tie.Need-returns-2
 returns-2 c =
@@ -52,14 +37,5 @@ returns-2 c =
 pub nearest-spec : {M : Type 1} → statement M
 nearest-spec =
     tie.close
-    (tie.spec
-    returns
-    sub-power
-    power-requires
-    sub-below-half
-    add-result
-    shr-parity
-    parity-requires
-    add-result-2
-    shr-result
-    returns-2)
+    (tie.spec returns (λ c. search needs) (λ c κs. search needs) sub-below-half add-result (λ c. search needs) (λ c κs. search needs)
+    add-result-2 (λ c. search needs) returns-2)

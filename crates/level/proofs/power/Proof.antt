@@ -9,11 +9,8 @@ use borrow.Author.Needs.{needs}
 use Rattle.level.proofs.power.Statement.{statement}
 use Rattle.level.proofs.power.Tie as tie
 
-shl-result : tie.Need-shl-result
-shl-result c = search needs
-
 returns : tie.Need-returns
 returns c = shl-exact {a = 1} 1 (c .args .d) 64 (lit< tt) (omega arith) ∙ one-mul (2 ^ c .args .d)
 
 pub power-spec : {M : Type 1} → statement M
-power-spec = tie.close (tie.spec shl-result returns)
+power-spec = tie.close (tie.spec (λ c. search needs) returns)

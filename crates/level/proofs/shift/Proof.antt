@@ -8,14 +8,8 @@ use Rattle.level.proofs.shift.Tie as tie
 mul-result : tie.Need-mul-result
 mul-result c = omega (arith, top-le (c .args .bits))
 
-scale-requires : tie.Need-scale-requires
-scale-requires c κs = search needs
-
 sub-result : tie.Need-sub-result
 sub-result c = omega (arith, top-place (c .before .args .bits))
 
-returns : tie.Need-returns
-returns c = search needs
-
 pub shift-spec : {M : Type 1} → statement M
-shift-spec = tie.close (tie.spec mul-result scale-requires sub-result returns)
+shift-spec = tie.close (tie.spec mul-result (λ c κs. search needs) sub-result (λ c. search needs))

@@ -9,15 +9,6 @@ use Rattle.level.proofs.Double.{significand-subnormal, significand-norm
 use Rattle.level.proofs.significand.Statement.{statement}
 use Rattle.level.proofs.significand.Tie as tie
 
-exponent-field-requires : tie.Need-exponent-field-requires
-exponent-field-requires c κs = search needs
-
-fraction-field-requires : tie.Need-fraction-field-requires
-fraction-field-requires c κs = search needs
-
-fraction-field-requires-2 : tie.Need-fraction-field-requires-2
-fraction-field-requires-2 c κs = search needs
-
 returns : tie.Need-returns
 returns c =
     c .fraction-field .ensures ∙ sym (significand-subnormal (c .before .before .before .args .bits) (sym (c .before .before .exponent-field .ensures) ∙ c .before .if1 .taken))
@@ -30,4 +21,4 @@ returns-2 c =
 
 pub significand-spec : {M : Type 1} → statement M
 significand-spec =
-    tie.close (tie.spec exponent-field-requires fraction-field-requires fraction-field-requires-2 returns returns-2)
+    tie.close (tie.spec (λ c κs. search needs) (λ c κs. search needs) (λ c κs. search needs) returns returns-2)

@@ -7,12 +7,6 @@ use Rattle.level.specs.Carry.{carryOf, residueOf}
 use Rattle.level.proofs.split.Statement.{statement}
 use Rattle.level.proofs.split.Tie as tie
 
-residue-of-requires : tie.Need-residue-of-requires
-residue-of-requires c κs = search needs
-
-carry-of-requires : tie.Need-carry-of-requires
-carry-of-requires c κs = search needs
-
 in-range : (c : tie.After-carry-of) → SFits w64 (c .carry-of .result)
 in-range c = search needs
 
@@ -24,4 +18,4 @@ returns c =
     λ i. record { residue = residue i; carry = carry i }
 
 pub split-spec : {M : Type 1} → statement M
-split-spec = tie.close (tie.spec residue-of-requires carry-of-requires returns)
+split-spec = tie.close (tie.spec (λ c κs. search needs) (λ c κs. search needs) returns)

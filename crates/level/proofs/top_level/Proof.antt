@@ -7,17 +7,8 @@ use borrow.Author.Needs.{needs}
 use Rattle.level.proofs.top_level.Statement.{statement}
 use Rattle.level.proofs.top_level.Tie as tie
 
-exponent-field-requires : tie.Need-exponent-field-requires
-exponent-field-requires c κs = search needs
-
-add-result : tie.Need-add-result
-add-result c = search needs
-
 returns : tie.Need-returns
 returns c = ap (λ (f : ℕ). (f + 52) / 40) (c .before .exponent-field .ensures) ∙ sym (top-normal (c .before .before .args .bits) (λ e. c .if1 .taken (c .before .exponent-field .ensures ∙ e)))
-
-fraction-field-requires : tie.Need-fraction-field-requires
-fraction-field-requires c κs = search needs
 
 returns-2 : tie.Need-returns-2
 returns-2 c = sym (top-small (c .before .before .before .before .args .bits) (omega arith) (omega arith))
@@ -27,4 +18,4 @@ returns-3 c = sym (top-subnormal (c .before .before .before .before .args .bits)
 
 pub top-level-spec : {M : Type 1} → statement M
 top-level-spec =
-    tie.close (tie.spec exponent-field-requires add-result returns fraction-field-requires returns-2 returns-3)
+    tie.close (tie.spec (λ c κs. search needs) (λ c. search needs) returns (λ c κs. search needs) returns-2 returns-3)

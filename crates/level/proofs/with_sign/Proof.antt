@@ -15,9 +15,6 @@ use Rattle.level.proofs.with_sign.Tie as tie
 negated : (n : ℕ) → n < 2 ^ 63 → pos 0 -ℤ toZ w64 n ≡ signed true n
 negated n h = ap (λ (z : ℤ). pos 0 -ℤ z) (toZ-pos w64 n h) ∙ +ℤ-idl (negℤ (pos n))
 
-cast-x : tie.Need-cast-x
-cast-x c = search needs
-
 sub-result : tie.Need-sub-result
 sub-result c = let n = c .before .args .size in rw (negated n (c .before .pre)) (signed-fits true n (c .before .pre))
 
@@ -33,4 +30,4 @@ returns-2 c =
     toZ-pos w64 n (c .before .pre) ∙ ap (λ (g : Bool). signed g n) (sym (c .if1 .left))
 
 pub with-sign-spec : {M : Type 1} → statement M
-with-sign-spec = tie.close (tie.spec cast-x sub-result returns returns-2)
+with-sign-spec = tie.close (tie.spec (λ c. search needs) sub-result returns returns-2)

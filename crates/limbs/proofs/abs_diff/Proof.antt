@@ -7,23 +7,11 @@ use borrow.Author.Needs.{needs}
 use Rattle.limbs.proofs.abs_diff.Statement.{statement}
 use Rattle.limbs.proofs.abs_diff.Tie as tie
 
-difference-with-bias-requires : tie.Need-difference-with-bias-requires
-difference-with-bias-requires c κs = search needs
-
-array-read-if1 : tie.Need-array-read-if1
-array-read-if1 c = search needs
-
-without-bias-requires : tie.Need-without-bias-requires
-without-bias-requires c κs = search needs
-
 returns : tie.Need-returns
 returns c =
     let s = c .before .before .before in
     let d = c .before .before .difference-with-bias in
     rw (c .without-bias .ensures) (difference-normal (s .args .p) (s .args .q) (d .result) (d .ensures) (s .pre .0) (c .before .if1 .taken), difference-up (s .args .p) (s .args .q) (d .result) (d .ensures) (c .before .if1 .taken))
-
-difference-with-bias-requires-2 : tie.Need-difference-with-bias-requires-2
-difference-with-bias-requires-2 c κs = search needs
 
 -- where the first difference shows the second number to be the larger
 less : (c : tie.After-difference-with-bias2) → valueOf (c .before .before .before .args .p) < valueOf (c .before .before .before .args .q)
@@ -51,11 +39,5 @@ returns-2 c =
 pub abs-diff-spec : {M : Type 1} → statement M
 abs-diff-spec =
     tie.close
-    (tie.spec
-    difference-with-bias-requires
-    array-read-if1
-    without-bias-requires
-    returns
-    difference-with-bias-requires-2
-    without-bias-requires-2
+    (tie.spec (λ c κs. search needs) (λ c. search needs) (λ c κs. search needs) returns (λ c κs. search needs) without-bias-requires-2
     returns-2)

@@ -6,24 +6,6 @@ use borrow.Author.Needs.{needs}
 use Rattle.limbs.proofs.leading_digits.Statement.{statement}
 use Rattle.limbs.proofs.leading_digits.Tie as tie
 
-array-read-q : tie.Need-array-read-q
-array-read-q c = search needs
-
-mul-q : tie.Need-mul-q
-mul-q c = search needs
-
-array-read-q-2 : tie.Need-array-read-q-2
-array-read-q-2 c = search needs
-
-add-q : tie.Need-add-q
-add-q c = search needs
-
-lower-digits-requires : tie.Need-lower-digits-requires
-lower-digits-requires c κs = search needs
-
-round-by-requires : tie.Need-round-by-requires
-round-by-requires c κs = search needs
-
 returns : tie.Need-returns
 returns c =
     let s = c .before .before in
@@ -34,4 +16,4 @@ returns c =
 pub leading-digits-spec : {M : Type 1} → statement M
 leading-digits-spec =
     tie.close
-    (tie.spec array-read-q mul-q array-read-q-2 add-q lower-digits-requires round-by-requires returns)
+    (tie.spec (λ c. search needs) (λ c. search needs) (λ c. search needs) (λ c. search needs) (λ c κs. search needs) (λ c κs. search needs) returns)

@@ -7,15 +7,6 @@ use borrow.Author.Needs.{needs}
 use Rattle.limbs.proofs.nearest_bits.Statement.{statement}
 use Rattle.limbs.proofs.nearest_bits.Tie as tie
 
-normalise-requires : tie.Need-normalise-requires
-normalise-requires c κs = search needs
-
-leading-digits-requires : tie.Need-leading-digits-requires
-leading-digits-requires c κs = search needs
-
-add-up : tie.Need-add-up
-add-up c = search needs
-
 assemble-requires : tie.Need-assemble-requires
 assemble-requires c κs =
     let s = c .before .before .before .before in
@@ -30,9 +21,6 @@ returns c =
     c .assemble .ensures
     ∙ ap (λ (q : ℕ). (27 + s .args .e - r .result .by) * 2 ^ 52 + q) (c .before .before .leading-digits .ensures)
     ∙ assembled (s .args .a) (r .result .limbs) (s .args .e) (r .result .by) (r .ensures .0) (r .ensures .1 .0) (s .pre .1 .1) (c .before .if1 .taken)
-
-sub-result : tie.Need-sub-result
-sub-result c = search needs
 
 shr-result : tie.Need-shr-result
 shr-result c =
@@ -50,12 +38,5 @@ returns-2 c =
 pub nearest-bits-spec : {M : Type 1} → statement M
 nearest-bits-spec =
     tie.close
-    (tie.spec
-    normalise-requires
-    leading-digits-requires
-    add-up
-    assemble-requires
-    returns
-    sub-result
-    shr-result
+    (tie.spec (λ c κs. search needs) (λ c κs. search needs) (λ c. search needs) assemble-requires returns (λ c. search needs) shr-result
     returns-2)

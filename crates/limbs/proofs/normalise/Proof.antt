@@ -5,12 +5,6 @@ use borrow.Author.Needs.{needs}
 use Rattle.limbs.proofs.normalise.Statement.{statement}
 use Rattle.limbs.proofs.normalise.Tie as tie
 
-shift-limbs-requires : tie.Need-shift-limbs-requires
-shift-limbs-requires c κs = search needs
-
-array-read-d : tie.Need-array-read-d
-array-read-d c = search needs
-
 cast-d : tie.Need-cast-d
 cast-d c = let s = c .before .shift-limbs in zeros-fit (getD (s .result .limbs) 3 0) (s .ensures .1 .0) (s .ensures .0 .normal .limb3)
 
@@ -40,4 +34,4 @@ returns c =
 pub normalise-spec : {M : Type 1} → statement M
 normalise-spec =
     tie.close
-    (tie.spec shift-limbs-requires array-read-d cast-d sub-d shift-digits-requires add-t7 returns)
+    (tie.spec (λ c κs. search needs) (λ c. search needs) cast-d sub-d shift-digits-requires add-t7 returns)

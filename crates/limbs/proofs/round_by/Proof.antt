@@ -7,15 +7,6 @@ use borrow.Author.Needs.{needs}
 use Rattle.limbs.proofs.round_by.Statement.{statement}
 use Rattle.limbs.proofs.round_by.Tie as tie
 
-one-if-requires : tie.Need-one-if-requires
-one-if-requires c κs = search needs
-
-add-if1 : tie.Need-add-if1
-add-if1 c = search needs
-
-add-result : tie.Need-add-result
-add-result c = search needs
-
 returns : tie.Need-returns
 returns c =
     let a = c .before .before .args in
@@ -29,4 +20,4 @@ returns-2 c =
     round-stay (a .up) (a .q) (a .rest) (a .half) (le-trans (le-of-eq (sym e)) (c .if1 .left))
 
 pub round-by-spec : {M : Type 1} → statement M
-round-by-spec = tie.close (tie.spec one-if-requires add-if1 add-result returns returns-2)
+round-by-spec = tie.close (tie.spec (λ c κs. search needs) (λ c. search needs) (λ c. search needs) returns returns-2)

@@ -5,15 +5,6 @@ use borrow.Author.Needs.{needs}
 use Rattle.limbs.proofs.shift_limb.Statement.{statement}
 use Rattle.limbs.proofs.shift_limb.Tie as tie
 
-shl-result : tie.Need-shl-result
-shl-result c = search needs
-
-sub-result : tie.Need-sub-result
-sub-result c = search needs
-
-shr-result : tie.Need-shr-result
-shr-result c = search needs
-
 add-result : tie.Need-add-result
 add-result c = rw (stays (c .args .x * 2 ^ c .args .d)) (limb-fits (c .args .x * 2 ^ c .args .d) (c .args .below) (c .args .d) (c .pre .1))
 
@@ -23,4 +14,4 @@ returns c =
     ap₂ (λ (x y : ℕ). x + y) (stays (a .x * 2 ^ a .d)) (leaves (a .below) (a .d) (c .pre .0))
 
 pub shift-limb-spec : {M : Type 1} → statement M
-shift-limb-spec = tie.close (tie.spec shl-result sub-result shr-result add-result returns)
+shift-limb-spec = tie.close (tie.spec (λ c. search needs) (λ c. search needs) (λ c. search needs) add-result returns)

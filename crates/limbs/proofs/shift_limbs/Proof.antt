@@ -5,38 +5,11 @@ use borrow.Author.Needs.{needs}
 use Rattle.limbs.proofs.shift_limbs.Statement.{statement}
 use Rattle.limbs.proofs.shift_limbs.Tie as tie
 
-array-read-if1 : tie.Need-array-read-if1
-array-read-if1 c = search needs
-
-returns : tie.Need-returns
-returns c = search needs
-
-array-read-if2 : tie.Need-array-read-if2
-array-read-if2 c = search needs
-
-array-read-t12 : tie.Need-array-read-t12
-array-read-t12 c = search needs
-
-array-read-t15 : tie.Need-array-read-t15
-array-read-t15 c = search needs
-
-array-read-t18 : tie.Need-array-read-t18
-array-read-t18 c = search needs
-
 returns-2 : tie.Need-returns-2
 returns-2 c =
     let a = c .before .before .args .t1 in
     let g = c .before .before .pre .0 in
     (record { normal = record { limb0 = lit< tt; limb1 = g .limb0; limb2 = g .limb1; limb3 = g .limb2 }; same = limbs-one (getD a 0 0) (getD a 1 0) (getD a 2 0) (getD a 3 0) (c .before .if1 .left) }, (c .if2 .taken, lit≤ tt))
-
-array-read-if3 : tie.Need-array-read-if3
-array-read-if3 c = search needs
-
-array-read-t24 : tie.Need-array-read-t24
-array-read-t24 c = search needs
-
-array-read-t27 : tie.Need-array-read-t27
-array-read-t27 c = search needs
 
 returns-3 : tie.Need-returns-3
 returns-3 c =
@@ -45,9 +18,6 @@ returns-3 c =
       record { normal = record { limb0 = lit< tt; limb1 = lit< tt; limb2 = g .limb0; limb3 = g .limb1 }; same = limbs-two (getD a 0 0) (getD a 1 0) (getD a 2 0) (getD a 3 0) (c .before .before .if1 .left) (c .before .if2 .left) },
       (c .if3 .taken, lit≤ tt),
     )
-
-array-read-t5 : tie.Need-array-read-t5
-array-read-t5 c = search needs
 
 returns-4 : tie.Need-returns-4
 returns-4 c =
@@ -63,17 +33,5 @@ returns-4 c =
 pub shift-limbs-spec : {M : Type 1} → statement M
 shift-limbs-spec =
     tie.close
-    (tie.spec
-    array-read-if1
-    returns
-    array-read-if2
-    array-read-t12
-    array-read-t15
-    array-read-t18
-    returns-2
-    array-read-if3
-    array-read-t24
-    array-read-t27
-    returns-3
-    array-read-t5
-    returns-4)
+    (tie.spec (λ c. search needs) (λ c. search needs) (λ c. search needs) (λ c. search needs) (λ c. search needs) (λ c. search needs)
+    returns-2 (λ c. search needs) (λ c. search needs) (λ c. search needs) returns-3 (λ c. search needs) returns-4)

@@ -16,16 +16,10 @@ first-sound c = sym (c .before .is-sound .ensures) ∙ not-false (c .before .is-
 second-sound : (c : tie.Else2) → let a = c .before .before .before .before .before .before .args in sound (a .second .now) (a .g2) ≡ true
 second-sound c = sym (c .before .is-sound2 .ensures) ∙ not-false (c .before .is-sound2 .result) (c .if2 .left)
 
-is-sound-requires : tie.Need-is-sound-requires
-is-sound-requires c κs = search needs
-
 returns : tie.Need-returns
 returns c =
     let a = c .before .before .before .before .args in
     not-sound₁ (a .first .now) (a .g1) (a .second .now) (a .g2) (sym (c .before .is-sound .ensures) ∙ not-true (c .before .is-sound .result) (c .if1 .taken))
-
-is-sound-requires-2 : tie.Need-is-sound-requires-2
-is-sound-requires-2 c κs = search needs
 
 returns-2 : tie.Need-returns-2
 returns-2 c =
@@ -40,9 +34,6 @@ returns-3 c =
     let p = c .before .before in
     let a = p .before .before .before .before .before .before .args in
     too-many-rows (a .first .now) (a .g1) (a .second .now) (a .g2) (first-sound (p .before .before)) (second-sound p) (sym (c .before .united .ensures .1) ∙ c .if3 .taken)
-
-capacity-requires : tie.Need-capacity-requires
-capacity-requires c κs = search needs
 
 returns-4 : tie.Need-returns-4
 returns-4 c =
@@ -64,13 +55,5 @@ returns-5 c =
 pub decide-spec : {M : Type 1} → statement M
 decide-spec =
     tie.close
-    (tie.spec
-    is-sound-requires
-    returns
-    is-sound-requires-2
-    returns-2
-    united-requires
-    returns-3
-    capacity-requires
-    returns-4
+    (tie.spec (λ c κs. search needs) returns (λ c κs. search needs) returns-2 united-requires returns-3 (λ c κs. search needs) returns-4
     returns-5)

@@ -7,31 +7,16 @@ use borrow.Author.Needs.{needs}
 use Rattle.merge.proofs.last_count.Statement.{statement}
 use Rattle.merge.proofs.last_count.Tie as tie
 
-count-at-requires : tie.Need-count-at-requires
-count-at-requires c κs = search needs
-
 returns : tie.Need-returns
 returns c =
     let a = c .before .before .before .before .before .args in
     c .count-at .ensures .0 ∙ ap (λ (x : Section). x .count) (sym (of-second (a .first .now) (a .second .now) (a .i) (a .j) (a .e) (c .before .if1 .taken)))
-
-count-at-requires-2 : tie.Need-count-at-requires-2
-count-at-requires-2 c κs = search needs
 
 returns-2 : tie.Need-returns-2
 returns-2 c =
     let a = c .before .before .before .before .before .before .before .args in
     c .count-at2 .ensures .0
     ∙ ap (λ (x : Section). x .count) (sym (of-first (a .first .now) (a .second .now) (a .i) (a .j) (a .e) (c .before .before .before .if1 .left) (c .before .if2 .taken)))
-
-count-at-requires-3 : tie.Need-count-at-requires-3
-count-at-requires-3 c κs = search needs
-
-count-at-requires-4 : tie.Need-count-at-requires-4
-count-at-requires-4 c κs = search needs
-
-add-result : tie.Need-add-result
-add-result c = search needs
 
 returns-3 : tie.Need-returns-3
 returns-3 c =
@@ -42,12 +27,5 @@ returns-3 c =
 pub last-count-spec : {M : Type 1} → statement M
 last-count-spec =
     tie.close
-    (tie.spec
-    count-at-requires
-    returns
-    count-at-requires-2
-    returns-2
-    count-at-requires-3
-    count-at-requires-4
-    add-result
-    returns-3)
+    (tie.spec (λ c κs. search needs) returns (λ c κs. search needs) returns-2 (λ c κs. search needs) (λ c κs. search needs)
+    (λ c. search needs) returns-3)

@@ -17,9 +17,6 @@ use borrow.Author.Needs.{needs}
 use Rattle.merge.proofs.last_record.Statement.{statement}
 use Rattle.merge.proofs.last_record.Tie as tie
 
-get-requires : tie.Need-get-requires
-get-requires c κs = search needs
-
 returns : tie.Need-returns
 returns c =
     let s = c .before .before .before .before .before in
@@ -30,9 +27,6 @@ returns c =
     ∙ record-in (a .second .now) (a .j) (a .e .j) (s .pre .1 .1 .0) (omega (arith, w .fewer, w .second))
     ∙ ap recordOf (sym (of-second (a .first .now) (a .second .now) (a .i) (a .j) (a .e) t))
 
-get-requires-2 : tie.Need-get-requires-2
-get-requires-2 c κs = search needs
-
 returns-2 : tie.Need-returns-2
 returns-2 c =
     let s = c .before .before .before .before .before .before .before in
@@ -41,12 +35,6 @@ returns-2 c =
     c .get2 .ensures
     ∙ record-in (a .first .now) (a .i) (a .e .i) (s .pre .1 .0) (lt-of-le-ne (s .pre .0 .first) n)
     ∙ ap recordOf (sym (of-first (a .first .now) (a .second .now) (a .i) (a .j) (a .e) n (c .before .if2 .taken)))
-
-get-requires-3 : tie.Need-get-requires-3
-get-requires-3 c κs = search needs
-
-get-requires-4 : tie.Need-get-requires-4
-get-requires-4 c κs = search needs
 
 returns-3 : tie.Need-returns-3
 returns-3 c =
@@ -75,12 +63,5 @@ combined-requires c κs =
 pub last-record-spec : {M : Type 1} → statement M
 last-record-spec =
     tie.close
-    (tie.spec
-    get-requires
-    returns
-    get-requires-2
-    returns-2
-    get-requires-3
-    get-requires-4
-    combined-requires
-    returns-3)
+    (tie.spec (λ c κs. search needs) returns (λ c κs. search needs) returns-2 (λ c κs. search needs) (λ c κs. search needs)
+    combined-requires returns-3)

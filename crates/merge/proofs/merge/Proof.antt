@@ -7,12 +7,6 @@ use borrow.Author.Needs.{needs}
 use Rattle.merge.proofs.merge.Statement.{statement}
 use Rattle.merge.proofs.merge.Tie as tie
 
-decide-requires : tie.Need-decide-requires
-decide-requires c κs = search needs
-
-enum-known-n : tie.Need-enum-known-n
-enum-known-n c = search needs
-
 write-back-requires : tie.Need-write-back-requires
 write-back-requires c κs =
     let a = c .before .before .before .before .before .before .before .before .args in
@@ -20,21 +14,12 @@ write-back-requires c κs =
     let w = accepted-says (a .first .now) (a .g1) (a .second .now) (a .g2) n (sym (ap tableAnswer (c .before .before .n .given .1)) ∙ c .before .before .before .before .decide .ensures) in
     (w .sound₁, (w .sound₂, (w .few, (w .groups, omega (arith, w .groups, w .room)))))
 
-enum-known-r : tie.Need-enum-known-r
-enum-known-r c = search needs
-
-same-length : tie.Need-same-length
-same-length c = search needs
-
 returns : tie.Need-returns
 returns c =
     let m = c .before .before .before .before .before in
     let a = m .before .before .before .before .before .before .args in
     let e = sym (ap tableAnswer (m .n .given .1)) ∙ m .before .before .decide .ensures in
     (e, leaves-written (a .first .now) (a .g1) (a .second .now) (a .g2) e (c .before .before .write-back .ensures))
-
-same-length-2 : tie.Need-same-length-2
-same-length-2 c = search needs
 
 returns-2 : tie.Need-returns-2
 returns-2 c =
@@ -46,12 +31,5 @@ returns-2 c =
 pub merge-spec : {M : Type 1} → statement M
 merge-spec =
     tie.close
-    (tie.spec
-    decide-requires
-    enum-known-n
-    write-back-requires
-    enum-known-r
-    same-length
-    returns
-    same-length-2
-    returns-2)
+    (tie.spec (λ c κs. search needs) (λ c. search needs) write-back-requires (λ c. search needs) (λ c. search needs) returns
+    (λ c. search needs) returns-2)

@@ -15,17 +15,11 @@ fits c =
     let q = sound-parts (c .args .second .now) (c .args .j) (c .pre .1 .0) in
     (p .0, q .0, p .1, q .1, c .pre .1 .1)
 
-sub-t8 : tie.Need-sub-t8
-sub-t8 c = search needs
-
 returns : tie.Need-returns
 returns c =
     let s = c .before .before .before in
     let a = s .args in
     second-last (a .first .now) (a .second .now) (a .i) (a .j) (s .pre .0) (s .pre .1 .0) (s .pre .1 .1) (λ l. absurd (omega arith))
-
-sub-u32-at : tie.Need-sub-u32-at
-sub-u32-at c = search needs
 
 mul-u32-at : tie.Need-mul-u32-at
 mul-u32-at c = let f = fits (c .before .before .before) in omega arith
@@ -33,17 +27,11 @@ mul-u32-at c = let f = fits (c .before .before .before) in omega arith
 u32-at-requires : tie.Need-u32-at-requires
 u32-at-requires c κs = let f = fits (c .before .before .before) in omega arith
 
-sub-u32-at-2 : tie.Need-sub-u32-at-2
-sub-u32-at-2 c = search needs
-
 mul-u32-at-2 : tie.Need-mul-u32-at-2
 mul-u32-at-2 c = let f = fits (c .before .before .before .before) in omega arith
 
 u32-at-requires-2 : tie.Need-u32-at-requires-2
 u32-at-requires-2 c κs = let f = fits (c .before .before .before .before) in omega arith
-
-sub-t11 : tie.Need-sub-t11
-sub-t11 c = search needs
 
 returns-2 : tie.Need-returns-2
 returns-2 c =
@@ -51,21 +39,12 @@ returns-2 c =
     let a = s .args in
     second-last (a .first .now) (a .second .now) (a .i) (a .j) (s .pre .0) (s .pre .1 .0) (s .pre .1 .1) (λ l. rw (← c .before .before .u32-at .ensures, ← c .before .u32-at2 .ensures) (c .if2 .taken))
 
-sub-t12 : tie.Need-sub-t12
-sub-t12 c = search needs
-
-sub-t13 : tie.Need-sub-t13
-sub-t13 c = search needs
-
 returns-3 : tie.Need-returns-3
 returns-3 c =
     let s = c .before .before .before .before .before .before .before in
     let a = s .args in
     let same : c .before .before .before .u32-at .result ≡ c .before .before .u32-at2 .result = c .if3 .taken in
     both-last (a .first .now) (a .second .now) (a .i) (a .j) (s .pre .0) (s .pre .1 .0) (s .pre .1 .1) (omega arith) (sym (c .before .before .before .u32-at .ensures) ∙ same ∙ c .before .before .u32-at2 .ensures)
-
-sub-t10 : tie.Need-sub-t10
-sub-t10 c = search needs
 
 returns-4 : tie.Need-returns-4
 returns-4 c =
@@ -76,19 +55,5 @@ returns-4 c =
 pub previous-spec : {M : Type 1} → statement M
 previous-spec =
     tie.close
-    (tie.spec
-    sub-t8
-    returns
-    sub-u32-at
-    mul-u32-at
-    u32-at-requires
-    sub-u32-at-2
-    mul-u32-at-2
-    u32-at-requires-2
-    sub-t11
-    returns-2
-    sub-t12
-    sub-t13
-    returns-3
-    sub-t10
-    returns-4)
+    (tie.spec (λ c. search needs) returns (λ c. search needs) mul-u32-at u32-at-requires (λ c. search needs) mul-u32-at-2 u32-at-requires-2
+    (λ c. search needs) returns-2 (λ c. search needs) (λ c. search needs) returns-3 (λ c. search needs) returns-4)

@@ -98,14 +98,4 @@ returns c =
 pub united-spec : {M : Type 1} → statement M
 united-spec =
     tie.close
-    (tie.spec
-    Inv-loop
-    μ-loop
-    loop-holds
-    previous-requires
-    last-count-requires
-    add-n
-    loop-less
-    loop-again
-    add-t12
-    returns)
+    (tie.spec Inv-loop μ-loop loop-holds previous-requires last-count-requires add-n loop-less loop-again add-t12 returns)

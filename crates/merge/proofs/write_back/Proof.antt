@@ -60,15 +60,4 @@ returns c = finished (c .before .loop .inv) (c .loop-test .left)
 pub write-back-spec : {M : Type 1} → statement M
 write-back-spec =
     tie.close
-    (tie.spec
-    Inv-loop
-    μ-loop
-    loop-holds
-    previous-requires
-    last-record-requires
-    sub-k
-    put-requires
-    loop-less
-    loop-again
-    same-length
-    returns)
+    (tie.spec Inv-loop μ-loop loop-holds previous-requires last-record-requires sub-k put-requires loop-less loop-again same-length returns)

@@ -6,19 +6,10 @@ use borrow.Author.Needs.{needs}
 use Rattle.numerals.proofs.print_bits.Statement.{statement}
 use Rattle.numerals.proofs.print_bits.Tie as tie
 
-put-digits-requires : tie.Need-put-digits-requires
-put-digits-requires c κs = search needs
-
-add-result : tie.Need-add-result
-add-result c = search needs
-
-same-length : tie.Need-same-length
-same-length c = search needs
-
 returns : tie.Need-returns
 returns c =
     let a = c .before .before .before .before .before .args in
     stored (a .text .now) _ (a .at) (hexadecimal (a .bits)) 16 16 (c .before .before .put-digits .ensures) (length-digits 16 16 (a .bits)) (omega arith) (omega arith)
 
 pub print-bits-spec : {M : Type 1} → statement M
-print-bits-spec = tie.close (tie.spec put-digits-requires add-result same-length returns)
+print-bits-spec = tie.close (tie.spec (λ c κs. search needs) (λ c. search needs) (λ c. search needs) returns)

@@ -6,17 +6,8 @@ use borrow.Author.Needs.{needs}
 use Rattle.numerals.proofs.print_byte.Statement.{statement}
 use Rattle.numerals.proofs.print_byte.Tie as tie
 
-slice-write-text : tie.Need-slice-write-text
-slice-write-text c = search needs
-
-add-result : tie.Need-add-result
-add-result c = search needs
-
-same-length : tie.Need-same-length
-same-length c = search needs
-
 returns : tie.Need-returns
 returns c = stored (c .args .text .now) _ (c .args .at) (c .args .b ∷ []) 1 1 refl refl (omega arith) (omega arith)
 
 pub print-byte-spec : {M : Type 1} → statement M
-print-byte-spec = tie.close (tie.spec slice-write-text add-result same-length returns)
+print-byte-spec = tie.close (tie.spec (λ c. search needs) (λ c. search needs) (λ c. search needs) returns)

@@ -21,20 +21,11 @@ module _ (c : tie.Then1) where
 positive-here : (c : tie.Else1) → Positive (c .before .before .args .z)
 positive-here c = positive (c .before .before .args .z) (c .before .before .fits .z) (c .if1 .left)
 
-print-byte-requires : tie.Need-print-byte-requires
-print-byte-requires c κs = search needs
-
 cast-print-decimal : tie.Need-cast-print-decimal
 cast-print-decimal c = let h = negative-here (c .before .before .before .before .before) in rw (h .turned) (tt, omega arith)
 
 add-print-decimal : tie.Need-add-print-decimal
 add-print-decimal c = let h = negative-here (c .before .before .before .before .before) in rw (h .turned) (omega arith)
-
-print-decimal-requires : tie.Need-print-decimal-requires
-print-decimal-requires c κs = search needs
-
-same-length : tie.Need-same-length
-same-length c = search needs
 
 returns : tie.Need-returns
 returns c =
@@ -48,12 +39,6 @@ returns c =
 cast-print-decimal-2 : tie.Need-cast-print-decimal-2
 cast-print-decimal-2 c = let h = positive-here (c .before) in rw (h .same) (tt, omega arith)
 
-print-decimal-requires-2 : tie.Need-print-decimal-requires-2
-print-decimal-requires-2 c κs = search needs
-
-same-length-2 : tie.Need-same-length-2
-same-length-2 c = search needs
-
 returns-2 : tie.Need-returns-2
 returns-2 c =
     let h = positive-here (c .before .before .before .before) in
@@ -62,14 +47,5 @@ returns-2 c =
 pub print-integer-spec : {M : Type 1} → statement M
 print-integer-spec =
     tie.close
-    (tie.spec
-    print-byte-requires
-    cast-print-decimal
-    add-print-decimal
-    print-decimal-requires
-    same-length
-    returns
-    cast-print-decimal-2
-    print-decimal-requires-2
-    same-length-2
-    returns-2)
+    (tie.spec (λ c κs. search needs) cast-print-decimal add-print-decimal (λ c κs. search needs) (λ c. search needs) returns
+    cast-print-decimal-2 (λ c κs. search needs) (λ c. search needs) returns-2)

@@ -5,15 +5,6 @@ use borrow.Author.Needs.{needs}
 use Rattle.numerals.proofs.print_integer_field.Statement.{statement}
 use Rattle.numerals.proofs.print_integer_field.Tie as tie
 
-print-integer-requires : tie.Need-print-integer-requires
-print-integer-requires c κs = search needs
-
-print-byte-requires : tie.Need-print-byte-requires
-print-byte-requires c κs = search needs
-
-same-length : tie.Need-same-length
-same-length c = search needs
-
 returns : tie.Need-returns
 returns c =
     let d = c .before .before .before .before .before .before in
@@ -22,4 +13,4 @@ returns c =
 
 pub print-integer-field-spec : {M : Type 1} → statement M
 print-integer-field-spec =
-    tie.close (tie.spec print-integer-requires print-byte-requires same-length returns)
+    tie.close (tie.spec (λ c κs. search needs) (λ c κs. search needs) (λ c. search needs) returns)

@@ -60,35 +60,11 @@ loop-holds c =
     let a = c .before .args in
     (zero-le, omega (arith, below-le (a .key) (recordKeys (records (a .t .now) (a .g))), length-keys (a .t .now) (a .g)), omega arith)
 
-add-half : tie.Need-add-half Inv-loop μ-loop
-add-half c = omega arith
-
-add-u32-at : tie.Need-add-u32-at Inv-loop μ-loop
-add-u32-at c = omega arith
-
-sub-u32-at : tie.Need-sub-u32-at Inv-loop μ-loop
-sub-u32-at c = omega arith
-
-mul-u32-at : tie.Need-mul-u32-at Inv-loop μ-loop
-mul-u32-at c = omega arith
-
-u32-at-requires : tie.Need-u32-at-requires Inv-loop μ-loop
-u32-at-requires c κs = omega arith
-
-is-below-requires : tie.Need-is-below-requires Inv-loop μ-loop
-is-below-requires c κs = search needs
-
 mul-lo : tie.Need-mul-lo Inv-loop μ-loop
 mul-lo c = ⊎-elim (λ w. omega arith) (λ w. omega arith) (chosen ((c .before .before .before .loop .n + 1) / 2) (c .before .u32-at .result) (c .before .before .before .before .before .args .key) (c .is-below .result) (c .is-below .ensures))
 
 add-lo : tie.Need-add-lo Inv-loop μ-loop
 add-lo c = ⊎-elim (λ w. omega arith) (λ w. omega arith) (chosen ((c .before .before .before .loop .n + 1) / 2) (c .before .u32-at .result) (c .before .before .before .before .before .args .key) (c .is-below .result) (c .is-below .ensures))
-
-sub-n : tie.Need-sub-n Inv-loop μ-loop
-sub-n c = omega arith
-
-loop-less : tie.Need-loop-less Inv-loop μ-loop
-loop-less c = omega arith
 
 loop-again : tie.Need-loop-again Inv-loop μ-loop
 loop-again c =
@@ -100,12 +76,6 @@ loop-again c =
     (λ w. omega (arith, smaller (a .args .t .now) (a .args .g) (a .args .key) (a .pre) m (u .result) (u .ensures) (omega arith) (w .0)))
     (λ w. omega (arith, larger (a .args .t .now) (a .args .g) (a .args .key) (a .pre) m (u .result) (u .ensures) (omega arith) (w .0)))
     (chosen ((c .before .before .before .loop .n + 1) / 2) (c .before .u32-at .result) (c .before .before .before .before .before .args .key) (c .is-below .result) (c .is-below .ensures))
-
-mul-u32-at-2 : tie.Need-mul-u32-at-2 Inv-loop μ-loop
-mul-u32-at-2 c = omega arith
-
-u32-at-requires-2 : tie.Need-u32-at-requires-2 Inv-loop μ-loop
-u32-at-requires-2 c κs = omega arith
 
 returns : tie.Need-returns Inv-loop μ-loop
 returns c =
@@ -127,23 +97,6 @@ returns-3 c =
 pub binary-search-spec : {M : Type 1} → statement M
 binary-search-spec =
     tie.close
-    (tie.spec
-    Inv-loop
-    μ-loop
-    loop-holds
-    add-half
-    add-u32-at
-    sub-u32-at
-    mul-u32-at
-    u32-at-requires
-    is-below-requires
-    mul-lo
-    add-lo
-    sub-n
-    loop-less
-    loop-again
-    mul-u32-at-2
-    u32-at-requires-2
-    returns
-    returns-2
-    returns-3)
+    (tie.spec Inv-loop μ-loop loop-holds (λ c. omega arith) (λ c. omega arith) (λ c. omega arith) (λ c. omega arith) (λ c κs. omega arith)
+    (λ c κs. search needs) mul-lo add-lo (λ c. omega arith) (λ c. omega arith) loop-again (λ c. omega arith) (λ c κs. omega arith) returns
+    returns-2 returns-3)

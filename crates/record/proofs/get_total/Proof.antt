@@ -6,15 +6,6 @@ use borrow.Author.Needs.{needs}
 use Rattle.record.proofs.get_total.Statement.{statement}
 use Rattle.record.proofs.get_total.Tie as tie
 
-u64-at-requires : tie.Need-u64-at-requires
-u64-at-requires c κs = search needs
-
-add-i64-at : tie.Need-add-i64-at
-add-i64-at c = search needs
-
-i64-at-requires : tie.Need-i64-at-requires
-i64-at-requires c κs = search needs
-
 in-range : (c : tie.After-i64-at) → SFits w64 (c .i64-at .result)
 in-range c = search needs
 
@@ -22,4 +13,4 @@ returns : tie.Need-returns
 returns c = λ k. record { residue = c .before .u64-at .ensures k; carry = (toZ-ofZ w64 (c .i64-at .result) (in-range c) ∙ c .i64-at .ensures) k }
 
 pub get-total-spec : {M : Type 1} → statement M
-get-total-spec = tie.close (tie.spec u64-at-requires add-i64-at i64-at-requires returns)
+get-total-spec = tie.close (tie.spec (λ c κs. search needs) (λ c. search needs) (λ c κs. search needs) returns)

@@ -4,21 +4,6 @@ use borrow.Author.Needs.{needs}
 use Rattle.record.proofs.insert.Statement.{statement}
 use Rattle.record.proofs.insert.Tie as tie
 
-mul-move-up : tie.Need-mul-move-up
-mul-move-up c = search needs
-
-mul-move-up-2 : tie.Need-mul-move-up-2
-mul-move-up-2 c = search needs
-
-move-up-requires : tie.Need-move-up-requires
-move-up-requires c κs = search needs
-
-put-requires : tie.Need-put-requires
-put-requires c κs = search needs
-
-same-length : tie.Need-same-length
-same-length c = search needs
-
 returns : tie.Need-returns
 returns c =
     let p = c .before .before in
@@ -29,4 +14,4 @@ returns c =
 
 pub insert-spec : {M : Type 1} → statement M
 insert-spec =
-    tie.close (tie.spec mul-move-up mul-move-up-2 move-up-requires put-requires same-length returns)
+    tie.close (tie.spec (λ c. search needs) (λ c. search needs) (λ c κs. search needs) (λ c κs. search needs) (λ c. search needs) returns)

@@ -15,17 +15,8 @@ carry x y hx hy = by (ltb x y) refl
     by true e = omega (arith, ltb-true x y e)
     by false e = omega (arith, ltb-false x y e)
 
-add-result : tie.Need-add-result
-add-result c = search needs
-
-sub-result : tie.Need-sub-result
-sub-result c = search needs
-
-sub-result-2 : tie.Need-sub-result-2
-sub-result-2 c = search needs
-
 returns : tie.Need-returns
 returns c = carry (c .args .x) (c .args .y) (search needs) (search needs)
 
 pub is-below-spec : {M : Type 1} → statement M
-is-below-spec = tie.close (tie.spec add-result sub-result sub-result-2 returns)
+is-below-spec = tie.close (tie.spec (λ c. search needs) (λ c. search needs) (λ c. search needs) returns)

@@ -6,51 +6,6 @@ use borrow.Author.Needs.{needs}
 use Rattle.record.proofs.put.Statement.{statement}
 use Rattle.record.proofs.put.Tie as tie
 
-mul-at : tie.Need-mul-at
-mul-at c = omega arith
-
-put-u32-requires : tie.Need-put-u32-requires
-put-u32-requires c κs = omega arith
-
-add-put-u32 : tie.Need-add-put-u32
-add-put-u32 c = omega arith
-
-put-u32-requires-2 : tie.Need-put-u32-requires-2
-put-u32-requires-2 c κs = omega arith
-
-add-put-u32-2 : tie.Need-add-put-u32-2
-add-put-u32-2 c = omega arith
-
-put-u32-requires-3 : tie.Need-put-u32-requires-3
-put-u32-requires-3 c κs = omega arith
-
-add-put-u32-3 : tie.Need-add-put-u32-3
-add-put-u32-3 c = omega arith
-
-put-u32-requires-4 : tie.Need-put-u32-requires-4
-put-u32-requires-4 c κs = omega arith
-
-add-put-total : tie.Need-add-put-total
-add-put-total c = omega arith
-
-put-total-requires : tie.Need-put-total-requires
-put-total-requires c κs = omega arith
-
-add-put-total-2 : tie.Need-add-put-total-2
-add-put-total-2 c = omega arith
-
-put-total-requires-2 : tie.Need-put-total-requires-2
-put-total-requires-2 c κs = omega arith
-
-add-put-total-3 : tie.Need-add-put-total-3
-add-put-total-3 c = omega arith
-
-put-total-requires-3 : tie.Need-put-total-requires-3
-put-total-requires-3 c κs = omega arith
-
-same-length : tie.Need-same-length
-same-length c = search needs
-
 in-range : (c : tie.Start) → InRange (c .args .r)
 in-range c = search needs
 
@@ -72,20 +27,6 @@ returns c =
 pub put-spec : {M : Type 1} → statement M
 put-spec =
     tie.close
-    (tie.spec
-    mul-at
-    put-u32-requires
-    add-put-u32
-    put-u32-requires-2
-    add-put-u32-2
-    put-u32-requires-3
-    add-put-u32-3
-    put-u32-requires-4
-    add-put-total
-    put-total-requires
-    add-put-total-2
-    put-total-requires-2
-    add-put-total-3
-    put-total-requires-3
-    same-length
-    returns)
+    (tie.spec (λ c. omega arith) (λ c κs. omega arith) (λ c. omega arith) (λ c κs. omega arith) (λ c. omega arith) (λ c κs. omega arith)
+    (λ c. omega arith) (λ c κs. omega arith) (λ c. omega arith) (λ c κs. omega arith) (λ c. omega arith) (λ c κs. omega arith)
+    (λ c. omega arith) (λ c κs. omega arith) (λ c. search needs) returns)

@@ -7,18 +7,6 @@ use borrow.Author.Needs.{needs}
 use Rattle.record.proofs.put_total.Statement.{statement}
 use Rattle.record.proofs.put_total.Tie as tie
 
-put-u64-requires : tie.Need-put-u64-requires
-put-u64-requires c κs = search needs
-
-add-put-i64 : tie.Need-add-put-i64
-add-put-i64 c = search needs
-
-put-i64-requires : tie.Need-put-i64-requires
-put-i64-requires c κs = search needs
-
-same-length : tie.Need-same-length
-same-length c = search needs
-
 in-range : (c : tie.Start) → SFits w64 (c .args .x .carry)
 in-range c = search needs
 
@@ -32,4 +20,4 @@ returns c =
 
 pub put-total-spec : {M : Type 1} → statement M
 put-total-spec =
-    tie.close (tie.spec put-u64-requires add-put-i64 put-i64-requires same-length returns)
+    tie.close (tie.spec (λ c κs. search needs) (λ c. search needs) (λ c κs. search needs) (λ c. search needs) returns)

@@ -34,21 +34,6 @@ module _ (d : tie.After-add) where
   outcome-here : addOutcome Double emptyTable 0 keys values tableSize ≡ tableAnswer (d .add .result)
   outcome-here = sym (d .add .ensures .0)
 
-slice-aggregate-add : tie.Need-slice-aggregate-add
-slice-aggregate-add c = search needs
-
-slice-aggregate-add-2 : tie.Need-slice-aggregate-add-2
-slice-aggregate-add-2 c = search needs
-
-add-requires : tie.Need-add-requires
-add-requires c κs = search needs
-
-enum-known-g : tie.Need-enum-known-g
-enum-known-g c = search needs
-
-slice-aggregate-print-table : tie.Need-slice-aggregate-print-table
-slice-aggregate-print-table c = search needs
-
 print-table-requires : tie.Need-print-table-requires
 print-table-requires c κs =
     let d = c .before .before .before .before .before .before .before in
@@ -56,27 +41,12 @@ print-table-requires c κs =
     let l = columns-left (keys d) (values d) (g .0 .0) (bytes-here d) (outcome-here d ∙ ap tableAnswer (g .1)) in
     ((l .room, omega arith), rw (d .add .ensures .1 .0) (l .table .is-sound))
 
-enum-known-r : tie.Need-enum-known-r
-enum-known-r c = search needs
-
-number-of-requires : tie.Need-number-of-requires
-number-of-requires c κs = search needs
-
-print-refusal-requires : tie.Need-print-refusal-requires
-print-refusal-requires c κs = search needs
-
-same-length : tie.Need-same-length
-same-length c = search needs
-
 returns : tie.Need-returns
 returns c =
     let e = c .before .before .before .before .before .before in
     let d = e .before .before .before .before in
     let g = e .g .given in
     rw (columns-accepted (keys d) (values d) (g .0 .0) (bytes-here d) (outcome-here d ∙ ap tableAnswer (g .1)), ← d .add .ensures .1 .0) (c .before .before .print-table .ensures)
-
-same-length-2 : tie.Need-same-length-2
-same-length-2 c = search needs
 
 returns-2 : tie.Need-returns-2
 returns-2 c =
@@ -88,17 +58,5 @@ returns-2 c =
 pub print-columns-spec : {M : Type 1} → statement M
 print-columns-spec =
     tie.close
-    (tie.spec
-    slice-aggregate-add
-    slice-aggregate-add-2
-    add-requires
-    enum-known-g
-    slice-aggregate-print-table
-    print-table-requires
-    enum-known-r
-    number-of-requires
-    print-refusal-requires
-    same-length
-    returns
-    same-length-2
-    returns-2)
+    (tie.spec (λ c. search needs) (λ c. search needs) (λ c κs. search needs) (λ c. search needs) (λ c. search needs) print-table-requires
+    (λ c. search needs) (λ c κs. search needs) (λ c κs. search needs) (λ c. search needs) returns (λ c. search needs) returns-2)

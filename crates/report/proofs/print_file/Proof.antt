@@ -24,42 +24,12 @@ module _ (d : tie.After-read) where
   outcome-here : readOutcome Double file ≡ readAnswer (d .read .result)
   outcome-here = sym (d .read .ensures)
 
-read-requires : tie.Need-read-requires
-read-requires c κs = search needs
-
-enum-told : tie.Need-enum-told
-enum-told c = search needs
-
-keys-requires : tie.Need-keys-requires
-keys-requires c κs = search needs
-
-values-requires : tie.Need-values-requires
-values-requires c κs = search needs
-
-print-columns-requires : tie.Need-print-columns-requires
-print-columns-requires c κs = search needs
-
-enum-known-r : tie.Need-enum-known-r
-enum-known-r c = search needs
-
-number-of-requires : tie.Need-number-of-requires
-number-of-requires c κs = search needs
-
-print-refusal-requires : tie.Need-print-refusal-requires
-print-refusal-requires c κs = search needs
-
-same-length : tie.Need-same-length
-same-length c = search needs
-
 returns : tie.Need-returns
 returns c =
     let e = c .before .before .before .before .before .before in
     let d = e .before .before in
     let n = e .enum-told .given in
     rw (file-accepted (file d) (n .0 .0) (outcome-here d ∙ ap readAnswer (n .1)), ← c .before .before .before .before .keys .ensures .0, ← c .before .before .before .values .ensures .0) (c .before .before .print-columns .ensures)
-
-same-length-2 : tie.Need-same-length-2
-same-length-2 c = search needs
 
 returns-2 : tie.Need-returns-2
 returns-2 c =
@@ -74,16 +44,5 @@ returns-2 c =
 pub print-file-spec : {M : Type 1} → statement M
 print-file-spec =
     tie.close
-    (tie.spec
-    read-requires
-    enum-told
-    keys-requires
-    values-requires
-    print-columns-requires
-    enum-known-r
-    number-of-requires
-    print-refusal-requires
-    same-length
-    returns
-    same-length-2
-    returns-2)
+    (tie.spec (λ c κs. search needs) (λ c. search needs) (λ c κs. search needs) (λ c κs. search needs) (λ c κs. search needs)
+    (λ c. search needs) (λ c κs. search needs) (λ c κs. search needs) (λ c. search needs) returns (λ c. search needs) returns-2)

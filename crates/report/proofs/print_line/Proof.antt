@@ -35,20 +35,8 @@ module _ (c : tie.After-print-integer-field) where
   figure-fits : SFits w32 figure
   figure-fits = omega (arith, c .before .struct-told .given)
 
-print-start-requires : tie.Need-print-start-requires
-print-start-requires c κs = search needs
-
 float-to-bits-print-bits-field : tie.Need-float-to-bits-print-bits-field
 float-to-bits-print-bits-field c = let s = c .before .before .before .before .before .before .before in number (s .args .line .sum) (s .pre .1)
-
-print-bits-field-requires : tie.Need-print-bits-field-requires
-print-bits-field-requires c κs = search needs
-
-print-integer-field-requires : tie.Need-print-integer-field-requires
-print-integer-field-requires c κs = search needs
-
-same-length : tie.Need-same-length
-same-length c = search needs
 
 returns : tie.Need-returns
 unfolding lastFields figureField
@@ -60,10 +48,5 @@ returns c =
 pub print-line-spec : {M : Type 1} → statement M
 print-line-spec =
     tie.close
-    (tie.spec
-    print-start-requires
-    float-to-bits-print-bits-field
-    print-bits-field-requires
-    print-integer-field-requires
-    same-length
+    (tie.spec (λ c κs. search needs) float-to-bits-print-bits-field (λ c κs. search needs) (λ c κs. search needs) (λ c. search needs)
     returns)

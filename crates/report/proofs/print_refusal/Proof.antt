@@ -19,18 +19,6 @@ module _ (c : tie.After-print-decimal-field) where
   number-printed : Continued (word-printed .print-bytes .last .0) (word-printed .print-bytes .result) (number ++ lineFeed) (decimalSize + 1) (c .print-decimal-field .last .0) (c .print-decimal-field .result)
   number-printed = c .print-decimal-field .ensures
 
-slice-aggregate-print-bytes : tie.Need-slice-aggregate-print-bytes
-slice-aggregate-print-bytes c = search needs
-
-print-bytes-requires : tie.Need-print-bytes-requires
-print-bytes-requires c κs = search needs
-
-print-decimal-field-requires : tie.Need-print-decimal-field-requires
-print-decimal-field-requires c κs = search needs
-
-same-length : tie.Need-same-length
-same-length c = search needs
-
 returns : tie.Need-returns
 unfolding refusalText
 returns c = let d = c .before .before in then-ended (number d) lineFeed (word-printed d .print-bytes .ensures) (number-printed d)
@@ -38,9 +26,4 @@ returns c = let d = c .before .before in then-ended (number d) lineFeed (word-pr
 pub print-refusal-spec : {M : Type 1} → statement M
 print-refusal-spec =
     tie.close
-    (tie.spec
-    slice-aggregate-print-bytes
-    print-bytes-requires
-    print-decimal-field-requires
-    same-length
-    returns)
+    (tie.spec (λ c. search needs) (λ c κs. search needs) (λ c κs. search needs) (λ c. search needs) returns)

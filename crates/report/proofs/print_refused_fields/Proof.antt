@@ -24,40 +24,10 @@ module _ (c : tie.After-print-refusal) where
   unfolding refusalText decimal decimalIn digit
   figure-printed = c .print-refusal .ensures
 
-enum-known-sum : tie.Need-enum-known-sum
-enum-known-sum c = search needs
-
 float-to-bits-print-bits-field : tie.Need-float-to-bits-print-bits-field
 float-to-bits-print-bits-field c =
     let x = c .before .before .sum .given in
     number (x .0 .0) (subst FiniteSum (x .1) (c .before .before .before .before .before .pre .1))
-
-print-bits-field-requires : tie.Need-print-bits-field-requires
-print-bits-field-requires c κs = search needs
-
-print-refusal-requires : tie.Need-print-refusal-requires
-print-refusal-requires c κs = search needs
-
-enum-told : tie.Need-enum-told
-enum-told c = search needs
-
-print-refusal-requires-2 : tie.Need-print-refusal-requires-2
-print-refusal-requires-2 c κs = search needs
-
-enum-told-2 : tie.Need-enum-told-2
-enum-told-2 c = search needs
-
-print-refusal-requires-3 : tie.Need-print-refusal-requires-3
-print-refusal-requires-3 c κs = search needs
-
-enum-told-3 : tie.Need-enum-told-3
-enum-told-3 c = search needs
-
-print-refusal-requires-4 : tie.Need-print-refusal-requires-4
-print-refusal-requires-4 c κs = search needs
-
-same-length : tie.Need-same-length
-same-length c = search needs
 
 returns : tie.Need-returns
 unfolding lastFields figureField
@@ -66,22 +36,13 @@ returns c =
     let p = sum-printed d in
     rw (p .before .before .before .sum .given .1) (then-ended (refusalText 15) lineFeed (p .print-bits-field .ensures) (figure-printed d))
 
-same-length-2 : tie.Need-same-length-2
-same-length-2 c = search needs
-
 returns-2 : tie.Need-returns-2
 unfolding lastFields
 returns-2 c = rw (c .before .before .before .before .enum-told .given .1) (longer (c .before .before .print-refusal2 .ensures) (omega arith))
 
-same-length-3 : tie.Need-same-length-3
-same-length-3 c = search needs
-
 returns-3 : tie.Need-returns-3
 unfolding lastFields
 returns-3 c = rw (c .before .before .before .before .enum-told2 .given .1) (longer (c .before .before .print-refusal3 .ensures) (omega arith))
-
-same-length-4 : tie.Need-same-length-4
-same-length-4 c = search needs
 
 returns-4 : tie.Need-returns-4
 unfolding lastFields
@@ -90,22 +51,6 @@ returns-4 c = rw (c .before .before .before .before .enum-told3 .given .1) (long
 pub print-refused-fields-spec : {M : Type 1} → statement M
 print-refused-fields-spec =
     tie.close
-    (tie.spec
-    enum-known-sum
-    float-to-bits-print-bits-field
-    print-bits-field-requires
-    print-refusal-requires
-    enum-told
-    print-refusal-requires-2
-    enum-told-2
-    print-refusal-requires-3
-    enum-told-3
-    print-refusal-requires-4
-    same-length
-    returns
-    same-length-2
-    returns-2
-    same-length-3
-    returns-3
-    same-length-4
-    returns-4)
+    (tie.spec (λ c. search needs) float-to-bits-print-bits-field (λ c κs. search needs) (λ c κs. search needs) (λ c. search needs)
+    (λ c κs. search needs) (λ c. search needs) (λ c κs. search needs) (λ c. search needs) (λ c κs. search needs) (λ c. search needs) returns
+    (λ c. search needs) returns-2 (λ c. search needs) returns-3 (λ c. search needs) returns-4)

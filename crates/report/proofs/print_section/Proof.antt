@@ -19,32 +19,14 @@ written d = finished (meaning (d .before .before .before .before .args .r)) (d .
 sum-is : (d : tie.After-record-sum) → sumAnswer (d .record-sum .result) ≡ sumOf (some (meaning (d .before .before .before .before .before .before .args .r)))
 sum-is d = ap sumAnswer (d .record-sum .ensures) ∙ sum-for (meaning (d .before .before .before .before .before .before .args .r))
 
-record-line-requires : tie.Need-record-line-requires
-record-line-requires c κs = search needs
-
-enum-known-line : tie.Need-enum-known-line
-enum-known-line c = search needs
-
 print-line-requires : tie.Need-print-line-requires
 print-line-requires c κs = (omega arith, written (c .before .before) .0)
-
-enum-told : tie.Need-enum-told
-enum-told c = search needs
-
-record-sum-requires : tie.Need-record-sum-requires
-record-sum-requires c κs = search needs
 
 print-unfinished-requires : tie.Need-print-unfinished-requires
 print-unfinished-requires c κs = (omega arith, subst FiniteSum (sym (c .record-sum .ensures)) (finite-for (kept (meaning (c .before .before .before .before .before .before .args .r)))))
 
-same-length : tie.Need-same-length
-same-length c = search needs
-
 returns : tie.Need-returns
 returns c = rw (← written (c .before .before .before .before .before) .1) (longer (c .before .before .print-line .ensures) (omega arith))
-
-same-length-2 : tie.Need-same-length-2
-same-length-2 c = search needs
 
 returns-2 : tie.Need-returns-2
 returns-2 c =
@@ -56,14 +38,5 @@ returns-2 c =
 pub print-section-spec : {M : Type 1} → statement M
 print-section-spec =
     tie.close
-    (tie.spec
-    record-line-requires
-    enum-known-line
-    print-line-requires
-    enum-told
-    record-sum-requires
-    print-unfinished-requires
-    same-length
-    returns
-    same-length-2
-    returns-2)
+    (tie.spec (λ c κs. search needs) (λ c. search needs) print-line-requires (λ c. search needs) (λ c κs. search needs)
+    print-unfinished-requires (λ c. search needs) returns (λ c. search needs) returns-2)

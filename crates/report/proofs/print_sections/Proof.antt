@@ -61,12 +61,6 @@ print-section-requires c κs =
     let s = c .before .before .before .before .before .before in
     (omega arith, subst (λ (r : Record). T (soundRecord r)) (sym (c .get .ensures)) (sound-record-at (s .args .table .now) (s .args .g) (c .before .before .before .loop .i) (s .pre .1) (omega arith)))
 
-add-i : tie.Need-add-i Inv-loop μ-loop
-add-i c = omega arith
-
-loop-less : tie.Need-loop-less Inv-loop μ-loop
-loop-less c = omega arith
-
 same-length : tie.Need-same-length Inv-loop μ-loop
 same-length c = c .before .loop .inv .1
 
@@ -79,14 +73,5 @@ returns c =
 pub print-sections-spec : {M : Type 1} → statement M
 print-sections-spec =
     tie.close
-    (tie.spec
-    Inv-loop
-    μ-loop
-    loop-holds
-    get-requires
-    print-section-requires
-    add-i
-    loop-less
-    loop-again
-    same-length
+    (tie.spec Inv-loop μ-loop loop-holds get-requires print-section-requires (λ c. omega arith) (λ c. omega arith) loop-again same-length
     returns)

@@ -11,23 +11,8 @@ module _ (c : tie.After-print-file) where
   abbrev out : List ℕ
   out = c .before .before .before .before .args .out .now
 
-slice-aggregate-print-file : tie.Need-slice-aggregate-print-file
-slice-aggregate-print-file c = search needs
-
-print-file-requires : tie.Need-print-file-requires
-print-file-requires c κs = search needs
-
 returns : tie.Need-returns
 returns c = let d = c .before .before in does-not-fit (d .print-file .ensures) (omega arith) (out d) (c .if1 .taken)
-
-slice-aggregate-copy : tie.Need-slice-aggregate-copy
-slice-aggregate-copy c = search needs
-
-copy-requires : tie.Need-copy-requires
-copy-requires c κs = search needs
-
-same-length : tie.Need-same-length
-same-length c = search needs
 
 returns-2 : tie.Need-returns-2
 returns-2 c =
@@ -38,11 +23,4 @@ returns-2 c =
 pub report-spec : {M : Type 1} → statement M
 report-spec =
     tie.close
-    (tie.spec
-    slice-aggregate-print-file
-    print-file-requires
-    returns
-    slice-aggregate-copy
-    copy-requires
-    same-length
-    returns-2)
+    (tie.spec (λ c. search needs) (λ c κs. search needs) returns (λ c. search needs) (λ c κs. search needs) (λ c. search needs) returns-2)

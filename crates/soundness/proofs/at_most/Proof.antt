@@ -7,20 +7,11 @@ use borrow.Author.Needs.{needs}
 use Rattle.soundness.proofs.at_most.Statement.{statement}
 use Rattle.soundness.proofs.at_most.Tie as tie
 
-cast-q : tie.Need-cast-q
-cast-q c = search needs
-
 returns : tie.Need-returns
 returns c = sym (le-leb (c .before .args .k * 2 ^ 50 + c .before .args .s) (c .before .args .count * 2 ^ 39) (omega arith))
 
 returns-2 : tie.Need-returns-2
 returns-2 c = sym (lt-leb (c .before .before .args .k * 2 ^ 50 + c .before .before .args .s) (c .before .before .args .count * 2 ^ 39) (omega arith))
-
-cast-result : tie.Need-cast-result
-cast-result c = search needs
-
-mul-result : tie.Need-mul-result
-mul-result c = search needs
 
 returns-3 : tie.Need-returns-3
 returns-3 c =
@@ -28,4 +19,4 @@ returns-3 c =
     leb-same (a .s) (a .count % 2048 * 2 ^ 39) (a .k * 2 ^ 50 + a .s) (a .count * 2 ^ 39) (λ h. omega arith) (λ h. omega arith)
 
 pub at-most-spec : {M : Type 1} → statement M
-at-most-spec = tie.close (tie.spec cast-q returns returns-2 cast-result mul-result returns-3)
+at-most-spec = tie.close (tie.spec (λ c. search needs) returns returns-2 (λ c. search needs) (λ c. search needs) returns-3)

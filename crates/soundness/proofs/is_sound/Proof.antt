@@ -7,9 +7,6 @@ use borrow.Author.Needs.{needs}
 use Rattle.soundness.proofs.is_sound.Statement.{statement}
 use Rattle.soundness.proofs.is_sound.Tie as tie
 
-capacity-requires : tie.Need-capacity-requires
-capacity-requires c κs = search needs
-
 returns : tie.Need-returns
 unfolding sound
 returns c =
@@ -26,4 +23,4 @@ returns-2 c =
     rw (le-leb (a .g) (capacity (length (a .t .now))) (omega (arith, c .before .before .capacity .ensures))) (c .records-sound .ensures)
 
 pub is-sound-spec : {M : Type 1} → statement M
-is-sound-spec = tie.close (tie.spec capacity-requires returns records-sound-requires returns-2)
+is-sound-spec = tie.close (tie.spec (λ c κs. search needs) returns records-sound-requires returns-2)

@@ -9,9 +9,6 @@ use borrow.Author.Needs.{needs}
 use Rattle.soundness.proofs.is_zero.Statement.{statement}
 use Rattle.soundness.proofs.is_zero.Tie as tie
 
-both-requires : tie.Need-both-requires
-both-requires c κs = search needs
-
 in-range : (c : tie.Start) → SFits w64 (c .args .x .carry)
 in-range c = search needs
 
@@ -21,4 +18,4 @@ returns c = let a = c .before .before .before .before in
     c .both .ensures ∙ ap (λ (t : Bool). eqb (a .args .x .residue) 0 && t) (zero-bits (a .args .x .carry) (in-range a))
 
 pub is-zero-spec : {M : Type 1} → statement M
-is-zero-spec = tie.close (tie.spec both-requires returns)
+is-zero-spec = tie.close (tie.spec (λ c κs. search needs) returns)

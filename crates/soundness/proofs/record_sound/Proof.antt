@@ -8,48 +8,6 @@ use borrow.Author.Needs.{needs}
 use Rattle.soundness.proofs.record_sound.Statement.{statement}
 use Rattle.soundness.proofs.record_sound.Tie as tie
 
-both-requires : tie.Need-both-requires
-both-requires c κs = search needs
-
-both-requires-2 : tie.Need-both-requires-2
-both-requires-2 c κs = search needs
-
-total-sound-requires : tie.Need-total-sound-requires
-total-sound-requires c κs = search needs
-
-both-requires-3 : tie.Need-both-requires-3
-both-requires-3 c κs = search needs
-
-total-sound-requires-2 : tie.Need-total-sound-requires-2
-total-sound-requires-2 c κs = search needs
-
-both-requires-4 : tie.Need-both-requires-4
-both-requires-4 c κs = search needs
-
-total-sound-requires-3 : tie.Need-total-sound-requires-3
-total-sound-requires-3 c κs = search needs
-
-both-requires-5 : tie.Need-both-requires-5
-both-requires-5 c κs = search needs
-
-is-zero-requires : tie.Need-is-zero-requires
-is-zero-requires c κs = search needs
-
-either-requires : tie.Need-either-requires
-either-requires c κs = search needs
-
-both-requires-6 : tie.Need-both-requires-6
-both-requires-6 c κs = search needs
-
-is-zero-requires-2 : tie.Need-is-zero-requires-2
-is-zero-requires-2 c κs = search needs
-
-either-requires-2 : tie.Need-either-requires-2
-either-requires-2 c κs = search needs
-
-both-requires-7 : tie.Need-both-requires-7
-both-requires-7 c κs = search needs
-
 -- The tests in the code's order; each equation is asked of its own call.
 joined :
     (r : Record) {counted head high highs middle middles low levels none free freed none′ free′ all : Bool} →
@@ -103,19 +61,6 @@ returns c =
 pub record-sound-spec : {M : Type 1} → statement M
 record-sound-spec =
     tie.close
-    (tie.spec
-    both-requires
-    both-requires-2
-    total-sound-requires
-    both-requires-3
-    total-sound-requires-2
-    both-requires-4
-    total-sound-requires-3
-    both-requires-5
-    is-zero-requires
-    either-requires
-    both-requires-6
-    is-zero-requires-2
-    either-requires-2
-    both-requires-7
-    returns)
+    (tie.spec (λ c κs. search needs) (λ c κs. search needs) (λ c κs. search needs) (λ c κs. search needs) (λ c κs. search needs)
+    (λ c κs. search needs) (λ c κs. search needs) (λ c κs. search needs) (λ c κs. search needs) (λ c κs. search needs)
+    (λ c κs. search needs) (λ c κs. search needs) (λ c κs. search needs) (λ c κs. search needs) returns)

@@ -103,38 +103,17 @@ module _ (e : tie.Else1 Inv-loop μ-loop) where
 loop-holds : tie.Need-loop-holds Inv-loop μ-loop
 loop-holds c = (zero-le, refl)
 
-get-requires : tie.Need-get-requires Inv-loop μ-loop
-get-requires c κs = omega arith
-
-record-sound-requires : tie.Need-record-sound-requires Inv-loop μ-loop
-record-sound-requires c κs = search needs
-
 returns : tie.Need-returns Inv-loop μ-loop
 returns c =
     let a = c .before .before .before .before .before .before in
     let l = c .before .before .before .before .loop in
     sym (stop (a .args .t .now) (a .args .g) (l .i) (a .pre) (omega arith) (c .before .before .get .ensures) (c .before .record-sound .ensures) (c .if1 .taken)) ∙ l .inv .1
 
-add-i : tie.Need-add-i Inv-loop μ-loop
-add-i c = omega arith
-
-mul-u32-at : tie.Need-mul-u32-at Inv-loop μ-loop
-mul-u32-at c = omega arith
-
-u32-at-requires : tie.Need-u32-at-requires Inv-loop μ-loop
-u32-at-requires c κs = omega arith
-
 returns-2 : tie.Need-returns-2 Inv-loop μ-loop
 returns-2 c = falls (c .before .before .before .before) (omega arith) (c .before .before .u32-at .ensures) (c .if3 .taken)
 
-loop-less : tie.Need-loop-less Inv-loop μ-loop
-loop-less c = omega arith
-
 loop-again : tie.Need-loop-again Inv-loop μ-loop
 loop-again c = (omega arith, rises (c .before .before .before .before) (omega arith) (c .before .before .u32-at .ensures) (c .if3 .left))
-
-loop-less-2 : tie.Need-loop-less-2 Inv-loop μ-loop
-loop-less-2 c = omega arith
 
 loop-again-2 : tie.Need-loop-again-2 Inv-loop μ-loop
 loop-again-2 c = (omega arith, ends (c .before) (omega arith))
@@ -151,19 +130,5 @@ returns-3 c =
 pub records-sound-spec : {M : Type 1} → statement M
 records-sound-spec =
     tie.close
-    (tie.spec
-    Inv-loop
-    μ-loop
-    loop-holds
-    get-requires
-    record-sound-requires
-    returns
-    add-i
-    mul-u32-at
-    u32-at-requires
-    returns-2
-    loop-less
-    loop-again
-    loop-less-2
-    loop-again-2
-    returns-3)
+    (tie.spec Inv-loop μ-loop loop-holds (λ c κs. omega arith) (λ c κs. search needs) returns (λ c. omega arith) (λ c. omega arith)
+    (λ c κs. omega arith) returns-2 (λ c. omega arith) loop-again (λ c. omega arith) loop-again-2 returns-3)

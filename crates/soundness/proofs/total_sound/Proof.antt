@@ -20,12 +20,6 @@ cast-at-most c =
     let l = turned (c .before .before .before .args .x .carry) (in-range (c .before .before .before)) (c .if2 .taken) in
     (l .0, omega (arith, l .1))
 
-sub-at-most : tie.Need-sub-at-most
-sub-at-most c = search needs
-
-at-most-requires : tie.Need-at-most-requires
-at-most-requires c κs = search needs
-
 returns : tie.Need-returns
 unfolding soundTotal
 returns c =
@@ -40,9 +34,6 @@ cast-at-most-2 c =
     let h = sign-known (x .carry) (in-range (c .before .before .before)) false (c .if2 .left) in
     let l = low-half (ofZ w64 (x .carry)) h in
     (l .0, omega (arith, l .1))
-
-at-most-requires-2 : tie.Need-at-most-requires-2
-at-most-requires-2 c κs = search needs
 
 returns-2 : tie.Need-returns-2
 unfolding soundTotal
@@ -59,12 +50,4 @@ returns-3 c = rw (le-ltb (c .before .before .args .x .residue) (2 ^ 50) (c .if1 
 pub total-sound-spec : {M : Type 1} → statement M
 total-sound-spec =
     tie.close
-    (tie.spec
-    cast-at-most
-    sub-at-most
-    at-most-requires
-    returns
-    cast-at-most-2
-    at-most-requires-2
-    returns-2
-    returns-3)
+    (tie.spec cast-at-most (λ c. search needs) (λ c κs. search needs) returns cast-at-most-2 (λ c κs. search needs) returns-2 returns-3)

@@ -44,9 +44,6 @@ last-decides c =
     )
     refl
 
-is-sound-requires : tie.Need-is-sound-requires
-is-sound-requires c κs = search needs
-
 returns : tie.Need-returns
 unfolding columnGrounds
 returns c = rw (← c .before .is-sound .ensures, not-true (c .before .is-sound .result) (c .if1 .taken)) refl
@@ -57,17 +54,11 @@ returns-2 c =
     let a = start (c .before) .args in
     rw (sound-here (c .before), lt-ltb (a .work) (length (a .table .now)) (c .if2 .taken)) refl
 
-columns-fit-requires : tie.Need-columns-fit-requires
-columns-fit-requires c κs = search needs
-
 returns-3 : tie.Need-returns-3
 unfolding columnGrounds
 returns-3 c =
     let d = c .before .before in
     rw (sound-here (d .before), long-here d, ← c .before .columns-fit .ensures, not-true (c .before .columns-fit .result) (c .if3 .taken)) refl
-
-any-not-finite-requires : tie.Need-any-not-finite-requires
-any-not-finite-requires c κs = search needs
 
 returns-4 : tie.Need-returns-4
 returns-4 c = sym (last-decides (c .before) ∙ rw (c .if4 .taken) refl)
@@ -78,12 +69,4 @@ returns-5 c = sym (last-decides (c .before) ∙ rw (c .if4 .left) refl)
 pub check-columns-spec : {M : Type 1} → statement M
 check-columns-spec =
     tie.close
-    (tie.spec
-    is-sound-requires
-    returns
-    returns-2
-    columns-fit-requires
-    returns-3
-    any-not-finite-requires
-    returns-4
-    returns-5)
+    (tie.spec (λ c κs. search needs) returns returns-2 (λ c κs. search needs) returns-3 (λ c κs. search needs) returns-4 returns-5)

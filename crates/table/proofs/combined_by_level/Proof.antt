@@ -14,12 +14,6 @@ use Rattle.table.specs.Steps.{bothAt}
 use Rattle.table.proofs.combined_by_level.Statement.{statement}
 use Rattle.table.proofs.combined_by_level.Tie as tie
 
-larger-requires : tie.Need-larger-requires
-larger-requires c κs = search needs
-
-add-count : tie.Need-add-count
-add-count c = search needs
-
 top-within : (c : tie.Start) → max (c .args .a .top) (c .args .b .top) ≤ 52
 top-within c =
     let p = sound-record-parts (c .args .a) (c .pre .0) in
@@ -54,10 +48,4 @@ returns c =
 pub combined-by-level-spec : {M : Type 1} → statement M
 combined-by-level-spec =
     tie.close
-    (tie.spec
-    larger-requires
-    add-count
-    total-below-requires
-    total-below-requires-2
-    total-below-requires-3
-    returns)
+    (tie.spec (λ c κs. search needs) (λ c. search needs) total-below-requires total-below-requires-2 total-below-requires-3 returns)

@@ -19,9 +19,6 @@ few c = search needs
 parts : (c : tie.Start) → SoundParts (c .args .a) × SoundParts (c .args .b)
 parts c = (sound-record-parts (c .args .a) (c .pre .0), sound-record-parts (c .args .b) (c .pre .1 .0))
 
-add-t3 : tie.Need-add-t3
-add-t3 c = search needs
-
 add-totals-requires : tie.Need-add-totals-requires
 add-totals-requires c κs =
     let s = c .before .before in
@@ -58,4 +55,4 @@ returns c =
 
 pub combined-same-top-spec : {M : Type 1} → statement M
 combined-same-top-spec =
-    tie.close (tie.spec add-t3 add-totals-requires add-totals-requires-2 add-totals-requires-3 returns)
+    tie.close (tie.spec (λ c. search needs) add-totals-requires add-totals-requires-2 add-totals-requires-3 returns)

@@ -2,11 +2,5 @@ use native.Mathlib.Omega.{arith}
 use Rattle.table.proofs.larger.Statement.{statement}
 use Rattle.table.proofs.larger.Tie as tie
 
-returns : tie.Need-returns
-returns c = omega arith
-
-returns-2 : tie.Need-returns-2
-returns-2 c = omega arith
-
 pub larger-spec : {M : Type 1} → statement M
-larger-spec = tie.close (tie.spec returns returns-2)
+larger-spec = tie.close (tie.spec (λ c. omega arith) (λ c. omega arith))

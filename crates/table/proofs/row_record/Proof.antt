@@ -10,18 +10,6 @@ use Rattle.table.specs.Combine.{ofRow}
 use Rattle.table.proofs.row_record.Statement.{statement}
 use Rattle.table.proofs.row_record.Tie as tie
 
-contributions-of-requires : tie.Need-contributions-of-requires
-contributions-of-requires c κs = search needs
-
-split-requires : tie.Need-split-requires
-split-requires c κs = search needs
-
-split-requires-2 : tie.Need-split-requires-2
-split-requires-2 c κs = search needs
-
-split-requires-3 : tie.Need-split-requires-3
-split-requires-3 c κs = search needs
-
 in-range : (c : tie.After-contributions-of) → SFits w64 (c .contributions-of .result .high) × SFits w64 (c .contributions-of .result .middle) × SFits w64 (c .contributions-of .result .low)
 in-range c = search needs
 
@@ -39,4 +27,4 @@ returns c =
 pub row-record-spec : {M : Type 1} → statement M
 row-record-spec =
     tie.close
-    (tie.spec contributions-of-requires split-requires split-requires-2 split-requires-3 returns)
+    (tie.spec (λ c κs. search needs) (λ c κs. search needs) (λ c κs. search needs) (λ c κs. search needs) returns)

@@ -10,24 +10,15 @@ use Rattle.table.proofs.split_in.Tie as tie
 returns : tie.Need-returns
 returns c = let a = c .before .before .before .args in rw (eq-eqb (a .j) (a .r .top) (omega arith))
 
-add-if2 : tie.Need-add-if2
-add-if2 c = search needs
-
 returns-2 : tie.Need-returns-2
 returns-2 c =
     let a = c .before .before .before .before .before .args in
     rw (ne-eqb (a .j) (a .r .top) (c .before .before .before .if1 .left), eq-eqb (a .j + 1) (a .r .top) (c .before .if2 .taken))
 
-add-if3 : tie.Need-add-if3
-add-if3 c = search needs
-
 returns-3 : tie.Need-returns-3
 returns-3 c =
     let a = c .before .before .before .before .before .before .before .args in
     rw (ne-eqb (a .j) (a .r .top) (c .before .before .before .before .before .if1 .left), ne-eqb (a .j + 1) (a .r .top) (c .before .before .before .if2 .left), eq-eqb (a .j + 2) (a .r .top) (omega arith)) refl
-
-nothing-requires : tie.Need-nothing-requires
-nothing-requires c κs = search needs
 
 returns-4 : tie.Need-returns-4
 returns-4 c =
@@ -36,4 +27,4 @@ returns-4 c =
 
 pub split-in-spec : {M : Type 1} → statement M
 split-in-spec =
-    tie.close (tie.spec returns add-if2 returns-2 add-if3 returns-3 nothing-requires returns-4)
+    tie.close (tie.spec returns (λ c. search needs) returns-2 (λ c. search needs) returns-3 (λ c κs. search needs) returns-4)

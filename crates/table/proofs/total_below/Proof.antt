@@ -11,17 +11,8 @@ use Rattle.table.proofs.Totals.{split-level, split-in-range}
 use Rattle.table.proofs.total_below.Statement.{statement}
 use Rattle.table.proofs.total_below.Tie as tie
 
-nothing-requires : tie.Need-nothing-requires
-nothing-requires c κs = search needs
-
 returns : tie.Need-returns
 returns c = let a = c .before .before .args in rw (lt-leb (a .d) (a .t) (c .before .if1 .taken)) (c .nothing .ensures)
-
-split-in-requires : tie.Need-split-in-requires
-split-in-requires c κs = search needs
-
-split-in-requires-2 : tie.Need-split-in-requires-2
-split-in-requires-2 c κs = search needs
 
 few : (c : tie.Start) → (c .args .a .count < 2 ^ 32) × (c .args .b .count < 2 ^ 32)
 few c = search needs
@@ -46,10 +37,4 @@ add-totals-requires c κs =
 pub total-below-spec : {M : Type 1} → statement M
 total-below-spec =
     tie.close
-    (tie.spec
-    nothing-requires
-    returns
-    split-in-requires
-    split-in-requires-2
-    add-totals-requires
-    returns-2)
+    (tie.spec (λ c κs. search needs) returns (λ c κs. search needs) (λ c κs. search needs) add-totals-requires returns-2)
