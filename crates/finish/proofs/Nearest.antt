@@ -38,7 +38,7 @@ abbrev Best : ℕ → ℕ → ℕ → ℕ → Type 0
 Best n u x y = (apart n (y * u) ≤ apart n (x * u)) × ((x ≡ y → ⊥) → apart n (y * u) ≡ apart n (x * u) → y % 2 ≡ 0)
 
 -- y units are at most half a unit from n
-module _ (n u x y : ℕ) (p : 0 < u) (over : y * u * 2 ≤ n * 2 + u) (under : n * 2 ≤ y * u * 2 + u) where
+module _ (n u x y : ℕ) (p : 0 < u) (upper : y * u * 2 ≤ n * 2 + u) (lower : n * 2 ≤ y * u * 2 + u) where
   near-best : apart n (y * u) ≤ apart n (x * u)
   near-best =
       ⊎-elim

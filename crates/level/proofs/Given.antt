@@ -51,7 +51,7 @@ apart-half : (x y u : ℕ) → x * 2 ≤ y * 2 + u → y * 2 ≤ x * 2 + u → a
 apart-half x y u a b = omega arith
 
 pub rest-half : (x u : ℕ) → 0 < u → restOf x u * 2 ≤ u
-rest-half x u h = let near = closest-near x u h in apart-half x (closest x u * u) u (near .under) (near .over)
+rest-half x u h = let near = closest-near x u h in apart-half x (closest x u * u) u (near .lower) (near .upper)
 
 size-left : (x j : ℕ) → natAbs (left (pos x) j) ≡ restOf x (unit j)
 size-left x j = ap natAbs (sub-signed x (closest x (unit j) * unit j)) ∙ natAbs-signed (roundedUp x (unit j)) (restOf x (unit j))

@@ -14,13 +14,13 @@ data Stands (j t : ℕ) : Type 0 where
   first : t ≡ j → Stands j t
   second : t ≡ j + 1 → Stands j t
   third : t ≡ j + 2 → Stands j t
-  over : t < j → Stands j t
+  above : t < j → Stands j t
 
 stands : (j t : ℕ) → t ≤ j + 2 → Stands j t
 stands j t h = go (decLe t j) (decLe (t + 1) j) (decLe t (j + 1))
   where
     go : Dec (t ≤ j) → Dec (t + 1 ≤ j) → Dec (t ≤ j + 1) → Stands j t
-    go (yes a) (yes b) c = over (omega arith)
+    go (yes a) (yes b) c = above (omega arith)
     go (yes a) (no b) c = first (omega arith)
     go (no a) b (yes c) = second (omega arith)
     go (no a) b (no c) = third (omega arith)
@@ -46,7 +46,7 @@ levelOf-at k n t f j l z = go (stands j t l)
     go (second e) = rw (ne-eqb j t (λ h. omega arith), eq-eqb (j + 1) t (sym e)) (below-is f t 1 j e)
     go (third e) =
         rw (ne-eqb j t (λ h. omega arith), ne-eqb (j + 1) t (λ h. omega arith), eq-eqb (j + 2) t (sym e)) (below-is f t 2 j e)
-    go (over h) = levelOf-above (sectionAt k n t f) j h ∙ sym (z h)
+    go (above h) = levelOf-above (sectionAt k n t f) j h ∙ sym (z h)
 
 -- families that agree from level t - 2 upwards make one section
 below-cong : (f g : ℕ → ℤ) (t i : ℕ) → i ≤ 2 → ((j : ℕ) → t ≤ j + 2 → f j ≡ g j) → below f t i ≡ below g t i

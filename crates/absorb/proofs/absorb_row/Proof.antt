@@ -21,7 +21,7 @@ use Rattle.absorb.proofs.absorb_row.Tie as tie
 small : (c : tie.After-u32-at) → c .u32-at .result < 2 ^ 32
 small c = search needs
 
--- where the row's record was made
+-- where the row's record was new-record
 module _ (c : tie.After-row-record) where
   abbrev start : tie.Start
   start = c .before .before .before .before .before .before
@@ -29,20 +29,20 @@ module _ (c : tie.After-row-record) where
   abbrev row : Row
   row = rowAt (start .args .kind) (start .args .keys .now) (start .args .values .now) (start .args .i)
 
-  abbrev made : Record
-  made = c .row-record .result
+  abbrev new-record : Record
+  new-record = c .row-record .result
 
-  made-is : made ≡ recordOf (ofRow row)
-  made-is = c .row-record .ensures ∙ ap₂ (λ (x y : ℕ). recordOf (ofRow (record { key = x; bits = y }))) (c .before .before .u32-at .ensures) (c .before .value-at .ensures)
+  new-record-is : new-record ≡ recordOf (ofRow row)
+  new-record-is = c .row-record .ensures ∙ ap₂ (λ (x y : ℕ). recordOf (ofRow (record { key = x; bits = y }))) (c .before .before .u32-at .ensures) (c .before .value-at .ensures)
 
-  made-means : meaning made ≡ ofRow row
-  made-means = ap meaning made-is ∙ meaning-record (ofRow row)
+  made-means : meaning new-record ≡ ofRow row
+  made-means = ap meaning new-record-is ∙ meaning-record (ofRow row)
 
-  made-sound : T (soundRecord made)
+  made-sound : T (soundRecord new-record)
   made-sound =
       let h = small (c .before .before) in
       let e = c .before .before .u32-at .ensures in
-      subst T (sym (ap soundRecord made-is ∙ sound-record (ofRow row) (row-proper row (omega arith)))) tt
+      subst T (sym (ap soundRecord new-record-is ∙ sound-record (ofRow row) (row-proper row (omega arith)))) tt
 
 value-at-requires : tie.Need-value-at-requires
 value-at-requires c κs =
