@@ -30,7 +30,8 @@ fn locate(t: &[u8], g: usize, last: usize, key: u32) -> Place
     record::binary_search(t, g, key)
 }
 
-// A table that took a section in: its group count, and where the section stands.
+// A table that took a section in: its group count, and the place that the next row tries first. A wrong place would cost time alone, so that
+// nothing is promised of it.
 pub enum Absorbed {
     Into { groups: usize, at: usize },
     NoRoom,

@@ -9,6 +9,6 @@ use Rattle.finish.specs.Sum.{nearestDouble, tooLarge}
 use Rattle.finish.specs.Figure.{millFigure, beyond}
 use Rattle.cases.specs.BenchFigures.{Case, section, addedUp, computed, benchFigures}
 
-pub figures : map computed benchFigures ≡ map (λ (c : Case). c .figure) benchFigures
+pub figures : map computed benchFigures ≡ map (λ (c : Case). c .benchFigure) benchFigures
 unfolding section addedUp find kept top topFrom given contribution ofRow levelOf combine absorb added nearestDouble tooLarge millFigure beyond round ofBits toBits add
 figures = refl

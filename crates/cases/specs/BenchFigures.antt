@@ -28,8 +28,8 @@ pub data BenchFigure : Type 0 where
 
 -- the bits of a section's rows, and a figure of them
 pub record Case : Type 0 where
-  pub bits : List ℕ
-  pub figure : BenchFigure
+  pub rowBits : List ℕ
+  pub benchFigure : BenchFigure
 
 -- ---- what the definitions give
 
@@ -63,7 +63,7 @@ of o bs (leftToRight a) = leftToRight (toBits binary64 (addedUp (ofBits binary64
 
 -- the figure that the definitions give for a case's rows
 abbrev pub computed : Case → BenchFigure
-computed c = of (section (c .bits)) (c .bits) (c .figure)
+computed c = of (section (c .rowBits)) (c .rowBits) (c .benchFigure)
 
 -- ---- the figures
 
@@ -73,7 +73,7 @@ double1 = 0x3FF0000000000000
 
 -- rows by their bits, and a figure of them
 abbrev entry : List ℕ → BenchFigure → Case
-entry bs f = record { bits = bs; figure = f }
+entry bs f = record { rowBits = bs; benchFigure = f }
 
 -- document 01's figures B1 to B12, each with its rows
 abbrev pub benchFigures : List Case

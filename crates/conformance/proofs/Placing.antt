@@ -11,9 +11,9 @@ use Rattle.patch.specs.File.{readOutcome, columnStart, keyDistance, valueDistan
 use Rattle.conformance.specs.Parts.{Parts}
 
 -- a column that starts past the front does not stand at the front's place
-apart : (o : Outcome ℕ) (d : ℕ) (f : List ℕ) (p : ℕ × ℕ) → o ≡ accepted 0 → d < length f → addressAfter p (columnStart o d f) ≡ p → ⊥
+not-in-front : (o : Outcome ℕ) (d : ℕ) (f : List ℕ) (p : ℕ × ℕ) → o ≡ accepted 0 → d < length f → addressAfter p (columnStart o d f) ≡ p → ⊥
 unfolding columnStart
-apart o d f p r h q =
+not-in-front o d f p r h q =
     let e : columnStart o d f ≡ length f - d = ap (λ (x : Outcome ℕ). columnStart x d f) r in
     let s : columnStart o d f + p .1 ≡ p .1 = ap (λ (x : ℕ × ℕ). x .1) q in
     omega arith
@@ -22,6 +22,6 @@ pub parts : Parts
 parts = record {
   of-keys = λ κs a z e l. l;
   of-values = λ κs a z e l. l;
-  keys-apart = λ κs a z e l r h q. apart (readOutcome Double (now (a .0))) (keyDistance (now (a .0))) (now (a .0)) (a .0 .ptr) r h (sym (l .1) ∙ q);
-  values-apart = λ κs a z e l r h q. apart (readOutcome Double (now (a .0))) (valueDistance (now (a .0))) (now (a .0)) (a .0 .ptr) r h (sym (l .1) ∙ q);
+  keys-not-in-front = λ κs a z e l r h q. not-in-front (readOutcome Double (now (a .0))) (keyDistance (now (a .0))) (now (a .0)) (a .0 .ptr) r h (sym (l .1) ∙ q);
+  values-not-in-front = λ κs a z e l r h q. not-in-front (readOutcome Double (now (a .0))) (valueDistance (now (a .0))) (now (a .0)) (a .0 .ptr) r h (sym (l .1) ∙ q);
 }

@@ -1,8 +1,8 @@
 -- No public call has a precondition.
-use Rattle.conformance.specs.Total.{Total}
+use Rattle.conformance.specs.AsksNothing.{AsksNothing}
 
-pub total : Total
-total = record {
+pub asks-nothing : AsksNothing
+asks-nothing = record {
   of-read = λ κs a. tt;
   of-keys = λ κs a. tt;
   of-values = λ κs a. tt;

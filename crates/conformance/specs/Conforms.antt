@@ -17,15 +17,15 @@ use Rattle.table.specs.Calls.{cleared}
 use Rattle.finish.specs.Answer.{sumAnswer, figureAnswer, lineAnswer}
 use Rattle.history.specs.Calls.{sum, figure, line, Call, add, merge, ask}
 use Rattle.history.specs.Run.{Store, State, setTable, after, step, Answer, groupsAre, sumIs, figureIs, lineIs, answer}
-use Rattle.add.proofs.add.Reads as adds
+use Rattle.add.proofs.add.Reads as addReads
 use Rattle.add.proofs.add.Kinds as addKinds
-use Rattle.merge.proofs.merge.Reads as merges
+use Rattle.merge.proofs.merge.Reads as mergeReads
 use Rattle.merge.proofs.merge.Kinds as mergeKinds
-use Rattle.finish.proofs.sum.Reads as sums
+use Rattle.finish.proofs.sum.Reads as sumReads
 use Rattle.finish.proofs.sum.Kinds as sumKinds
-use Rattle.finish.proofs.figure.Reads as figures
+use Rattle.finish.proofs.figure.Reads as figureReads
 use Rattle.finish.proofs.figure.Kinds as figureKinds
-use Rattle.finish.proofs.line.Reads as lines
+use Rattle.finish.proofs.line.Reads as lineReads
 use Rattle.finish.proofs.line.Kinds as lineKinds
 
 -- a call in state s that answers x and leaves the state s′
@@ -51,7 +51,7 @@ pub record Conforms : Type 0 where
       let work = now (a .1 .1 .1 .1 .0) in
       let table′ = now (e .0) in
       let work′ = now (e .1 .1 .1 .1 .0) in
-      Lent (s .tables i) table g → adds.Learnt κs a z e
+      Lent (s .tables i) table g → addReads.Learnt κs a z e
       → StepsTo s (add i Double keys values (length work)) (groupsAre (tableAnswer z)) (stateLeft s i (tableAnswer z) table′) × (work′ ≡ cleared work)
   -- merge::merge into table i of another table j, which is lent for reading
   pub of-merge : (s : State) (i j : ℕ) (apart : T (not (eqb i j)))
@@ -61,21 +61,21 @@ pub record Conforms : Type 0 where
       let second = now (a .1 .1 .0) in
       let g2 = a .1 .1 .1 .0 in
       let first′ = now (e .0) in
-      Lent (s .tables i) first g1 → Lent (s .tables j) second g2 → merges.Learnt κs a z e
+      Lent (s .tables i) first g1 → Lent (s .tables j) second g2 → mergeReads.Learnt κs a z e
       → StepsTo s (merge i j apart) (groupsAre (tableAnswer z)) (stateLeft s i (tableAnswer z) first′)
   -- finish::sum, figure and line of a section in table i, which is lent for reading
   pub of-sum : (s : State) (i : ℕ) (κs : Lfts 1) (a : Dens κs sumKinds.ps) (z : resT sumKinds.r κs .Denot) (e : AtExit (endedOf 1 sumKinds.ps sumKinds.r) κs)
       → let table = now (a .0) in
       let g = a .1 .0 in
       let key = a .1 .1 .0 in
-      Lent (s .tables i) table g → sums.Learnt κs a z e → StepsTo s (ask i (sum key)) (sumIs (sumAnswer z)) s
+      Lent (s .tables i) table g → sumReads.Learnt κs a z e → StepsTo s (ask i (sum key)) (sumIs (sumAnswer z)) s
   pub of-figure : (s : State) (i : ℕ) (κs : Lfts 1) (a : Dens κs figureKinds.ps) (z : resT figureKinds.r κs .Denot) (e : AtExit (endedOf 1 figureKinds.ps figureKinds.r) κs)
       → let table = now (a .0) in
       let g = a .1 .0 in
       let key = a .1 .1 .0 in
-      Lent (s .tables i) table g → figures.Learnt κs a z e → StepsTo s (ask i (figure key)) (figureIs (figureAnswer z)) s
+      Lent (s .tables i) table g → figureReads.Learnt κs a z e → StepsTo s (ask i (figure key)) (figureIs (figureAnswer z)) s
   pub of-line : (s : State) (i : ℕ) (κs : Lfts 1) (a : Dens κs lineKinds.ps) (z : resT lineKinds.r κs .Denot) (e : AtExit (endedOf 1 lineKinds.ps lineKinds.r) κs)
       → let table = now (a .0) in
       let g = a .1 .0 in
       let key = a .1 .1 .0 in
-      Lent (s .tables i) table g → lines.Learnt κs a z e → StepsTo s (ask i (line key)) (lineIs (lineAnswer z)) s
+      Lent (s .tables i) table g → lineReads.Learnt κs a z e → StepsTo s (ask i (line key)) (lineIs (lineAnswer z)) s

@@ -21,7 +21,7 @@ pub record Parts : Type 1 where
   pub of-values : (κs : Lfts 1) (a : Dens κs valuesKinds.ps) (z : resT valuesKinds.r κs .Denot) (e : AtExit (endedOf 1 valuesKinds.ps valuesKinds.r) κs) → valuesReads.Learnt κs a z e
       → (now z ≡ valueColumn Double (now (a .0))) × (z .ptr ≡ addressAfter (a .0 .ptr) (valueStart Double (now (a .0))))
   -- so the empty part of a file without rows does not stand at the file's front, unless its column starts there
-  pub keys-apart : (κs : Lfts 1) (a : Dens κs keysKinds.ps) (z : resT keysKinds.r κs .Denot) (e : AtExit (endedOf 1 keysKinds.ps keysKinds.r) κs) → keysReads.Learnt κs a z e
+  pub keys-not-in-front : (κs : Lfts 1) (a : Dens κs keysKinds.ps) (z : resT keysKinds.r κs .Denot) (e : AtExit (endedOf 1 keysKinds.ps keysKinds.r) κs) → keysReads.Learnt κs a z e
       → readOutcome Double (now (a .0)) ≡ accepted 0 → keyDistance (now (a .0)) < length (now (a .0)) → z .ptr ≡ a .0 .ptr → ⊥
-  pub values-apart : (κs : Lfts 1) (a : Dens κs valuesKinds.ps) (z : resT valuesKinds.r κs .Denot) (e : AtExit (endedOf 1 valuesKinds.ps valuesKinds.r) κs) → valuesReads.Learnt κs a z e
+  pub values-not-in-front : (κs : Lfts 1) (a : Dens κs valuesKinds.ps) (z : resT valuesKinds.r κs .Denot) (e : AtExit (endedOf 1 valuesKinds.ps valuesKinds.r) κs) → valuesReads.Learnt κs a z e
       → readOutcome Double (now (a .0)) ≡ accepted 0 → valueDistance (now (a .0)) < length (now (a .0)) → z .ptr ≡ a .0 .ptr → ⊥

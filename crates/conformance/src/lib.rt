@@ -1,1 +1,1 @@
-// Each call's contract, as its callers learn it, is a step of a way of working. It has a claim and its proof, and no code.
+// What callers learn from the public contracts: five of them are the steps of a way of working, two fix a part's place, and none asks anything. Claims and their proofs, and no code.

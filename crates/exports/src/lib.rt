@@ -1,4 +1,4 @@
-// The public calls under their plain names, for Rust and C. A call returns a number of at least 0, or minus the refusal's number; its other results go
+// The public calls under their plain names, for Rust and C. A call returns a number of at least 0, or minus the refusal's number; further numbers go
 // out through references, and are 0 when the call is refused.
 ghost use mathlib.Core.Path.{_≡_};
 ghost use mathlib.Core.Bool.{not};
@@ -37,8 +37,8 @@ fn minus(r: Refusal) -> i64
 #[no_mangle]
 pub extern "C" fn girth_read(file: &[u8], keys_at: &mut u64, values_at: &mut u64) -> i64
     ensures answer { λ r. ⌜ r ≡ returnsCount (readOutcome Double (now (file .entry))) ⌝ }
-    ensures keys { λ _. ⌜ now («keys_at» .exit) ≡ keyStart Double (now (file .entry)) ⌝ }
-    ensures values { λ _. ⌜ now («values_at» .exit) ≡ valueStart Double (now (file .entry)) ⌝ }
+    ensures key_start { λ _. ⌜ now («keys_at» .exit) ≡ keyStart Double (now (file .entry)) ⌝ }
+    ensures value_start { λ _. ⌜ now («values_at» .exit) ≡ valueStart Double (now (file .entry)) ⌝ }
 {
     let keys = patch::key_start(file) as u64;
     let values = patch::value_start(file) as u64;

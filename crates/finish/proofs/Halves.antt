@@ -12,7 +12,7 @@ use lib.Pow.{pow-pos}
 use lib.Ieee.{Float, binary64, toBits, fits}
 use lib.Ieee.Scale.{finite}
 use Rattle.integers.proofs.Diff.{ints, byParts₃}
-use Rattle.level.specs.Cut.{apart}
+use Rattle.level.specs.Cut.{absDiff}
 use Rattle.level.specs.Double.{signed, negative, magnitude, value}
 use Rattle.finish.specs.Figure.{HalfUp, millFigure}
 use Rattle.limbs.specs.Nearest.{nearestBy}
@@ -26,10 +26,10 @@ Within u v z = ((z *ℤ pos 2 *ℤ pos u) ≤ℤ (v *ℤ pos 2 +ℤ pos u)) × (
 
 -- of the numbers in parts, v = a - b, z = c - d and w = e - f: a w above z is farther away, and one below is no nearer
 module _ (u a b c d e f : ℕ) (low : c * 2 * u + b * 2 ≤ a * 2 + u + d * 2 * u) (high : a * 2 + 1 + d * 2 * u ≤ c * 2 * u + u + b * 2) where
-  above : c + f < e + d → apart (a + d * u) (b + c * u) < apart (a + f * u) (b + e * u)
+  above : c + f < e + d → absDiff (a + d * u) (b + c * u) < absDiff (a + f * u) (b + e * u)
   above g = let m : suc (c + f) * u ≤ (e + d) * u = mul-le-mul-right u g in omega arith
 
-  below : e + d ≤ c + f → apart (a + d * u) (b + c * u) ≤ apart (a + f * u) (b + e * u)
+  below : e + d ≤ c + f → absDiff (a + d * u) (b + c * u) ≤ absDiff (a + f * u) (b + e * u)
   below g =
       ⊎-elim (λ q. let m : (e + d) * u ≡ (c + f) * u = ap (λ (x : ℕ). x * u) q in omega arith) (λ l. let m : suc (e + d) * u ≤ (c + f) * u = mul-le-mul-right u l in omega arith)
       (eq-or-lt-of-le g)

@@ -19,7 +19,7 @@ use lib.Ieee.Exact.{HasValue}
 use lib.Ieee.Scale as Scale
 use Rattle.integers.proofs.Diff.{ints}
 use Rattle.level.specs.Double.{exponentField, fraction, significand, magnitude, negative, finiteBits, signed, value}
-use Rattle.level.specs.Cut.{apart}
+use Rattle.level.specs.Cut.{absDiff}
 use Rattle.level.proofs.Signs.{sub-signed, natAbs-signed}
 use Rattle.level.proofs.Double.{significand-lt}
 use Rattle.level.proofs.Near.{pow-sum}
@@ -35,18 +35,18 @@ use Rattle.finish.proofs.Limit.{limit-value, limit-number, limit-finite
 
 -- y units are no farther from n than x units, and where x is another number as near, y is even
 abbrev Best : ℕ → ℕ → ℕ → ℕ → Type 0
-Best n u x y = (apart n (y * u) ≤ apart n (x * u)) × ((x ≡ y → ⊥) → apart n (y * u) ≡ apart n (x * u) → y % 2 ≡ 0)
+Best n u x y = (absDiff n (y * u) ≤ absDiff n (x * u)) × ((x ≡ y → ⊥) → absDiff n (y * u) ≡ absDiff n (x * u) → y % 2 ≡ 0)
 
 -- y units are at most half a unit from n
 module _ (n u x y : ℕ) (p : 0 < u) (upper : y * u * 2 ≤ n * 2 + u) (lower : n * 2 ≤ y * u * 2 + u) where
-  near-best : apart n (y * u) ≤ apart n (x * u)
+  near-best : absDiff n (y * u) ≤ absDiff n (x * u)
   near-best =
       ⊎-elim
       (λ g. ⊎-elim (λ e. let m : x * u ≡ y * u = ap (λ (z : ℕ). z * u) e in omega arith) (λ l. let m : suc x * u ≤ y * u = mul-le-mul-right u l in omega arith) (eq-or-lt-of-le g))
       (λ l. let m : suc y * u ≤ x * u = mul-le-mul-right u l in omega arith)
       (le-or-lt x y)
 
-  half-best : (x ≡ y → ⊥) → apart n (y * u) ≡ apart n (x * u) → Halfway n u y
+  half-best : (x ≡ y → ⊥) → absDiff n (y * u) ≡ absDiff n (x * u) → Halfway n u y
   half-best d e =
       ⊎-elim
       (λ g. let m : suc x * u ≤ y * u = mul-le-mul-right u (lt-of-le-ne g d) in inl (omega arith))
@@ -61,7 +61,7 @@ nearest-best n u x h =
 -- ---- among all m × 2^j with m of at most 53 digits
 
 -- a number of fewer digits than n keeps is farther away than 2^52 of the units that n is rounded to
-fewer : (n m j : ℕ) → m < 2 ^ 53 → j < droppedDigits n → apart n (significandOf n * 2 ^ droppedDigits n) < apart n (m * 2 ^ j)
+fewer : (n m j : ℕ) → m < 2 ^ 53 → j < droppedDigits n → absDiff n (significandOf n * 2 ^ droppedDigits n) < absDiff n (m * 2 ^ j)
 fewer n m j h l =
     let d = droppedDigits n in
     let w : 2 ^ 52 * 2 ^ d ≤ n = le-div-iff-mul-le (pow-pos d) .0 (reaches n (omega arith)) in
@@ -69,9 +69,9 @@ fewer n m j h l =
     let k : 53 + j ≤ 52 + d = omega arith in
     let t : 2 ^ 53 * 2 ^ j ≤ 2 ^ 52 * 2 ^ d = le-trans (le-of-eq (sym (pow-add 2 53 j))) (le-trans (pow-mono k) (le-of-eq (pow-add 2 52 d))) in
     let b = nearest-best n (2 ^ d) (2 ^ 52) (pow-pos d) .0 in
-    less n (m * 2 ^ j) (2 ^ 53 * 2 ^ j) (2 ^ 52 * 2 ^ d) (apart n (significandOf n * 2 ^ d)) v t w b
+    less n (m * 2 ^ j) (2 ^ 53 * 2 ^ j) (2 ^ 52 * 2 ^ d) (absDiff n (significandOf n * 2 ^ d)) v t w b
   where
-    less : (n a b c x : ℕ) → a < b → b ≤ c → c ≤ n → x ≤ apart n c → x < apart n a
+    less : (n a b c x : ℕ) → a < b → b ≤ c → c ≤ n → x ≤ absDiff n c → x < absDiff n a
     less n a b c x h k l m = omega arith
 
 -- a number of as many or more zeros is a number of those units
@@ -82,24 +82,24 @@ module _ (n m j : ℕ) (l : droppedDigits n ≤ j) where
   more : Best n (2 ^ droppedDigits n) (m * 2 ^ (j - droppedDigits n)) (significandOf n)
   more = nearest-best n (2 ^ droppedDigits n) (m * 2 ^ (j - droppedDigits n)) (pow-pos (droppedDigits n))
 
-digits-near : (n m j : ℕ) → m < 2 ^ 53 → apart n (significandOf n * 2 ^ droppedDigits n) ≤ apart n (m * 2 ^ j)
+digits-near : (n m j : ℕ) → m < 2 ^ 53 → absDiff n (significandOf n * 2 ^ droppedDigits n) ≤ absDiff n (m * 2 ^ j)
 digits-near n m j h =
-    ⊎-elim (λ l. le-trans (more n m j l .0) (le-of-eq (ap (apart n) (same-unit n m j l)))) (λ l. let g = fewer n m j h l in omega arith) (le-or-lt (droppedDigits n) j)
+    ⊎-elim (λ l. le-trans (more n m j l .0) (le-of-eq (ap (absDiff n) (same-unit n m j l)))) (λ l. let g = fewer n m j h l in omega arith) (le-or-lt (droppedDigits n) j)
 
-digits-even : (n m j : ℕ) → m < 2 ^ 53 → (m * 2 ^ j ≡ significandOf n * 2 ^ droppedDigits n → ⊥) → apart n (significandOf n * 2 ^ droppedDigits n) ≡ apart n (m * 2 ^ j) → significandOf n % 2 ≡ 0
+digits-even : (n m j : ℕ) → m < 2 ^ 53 → (m * 2 ^ j ≡ significandOf n * 2 ^ droppedDigits n → ⊥) → absDiff n (significandOf n * 2 ^ droppedDigits n) ≡ absDiff n (m * 2 ^ j) → significandOf n % 2 ≡ 0
 digits-even n m j h d e =
     ⊎-elim
-    (λ l. more n m j l .1 (λ g. d (sym (same-unit n m j l) ∙ ap (λ (x : ℕ). x * 2 ^ droppedDigits n) g)) (e ∙ ap (apart n) (sym (same-unit n m j l))))
+    (λ l. more n m j l .1 (λ g. d (sym (same-unit n m j l) ∙ ap (λ (x : ℕ). x * 2 ^ droppedDigits n) g)) (e ∙ ap (absDiff n) (sym (same-unit n m j l))))
     (λ l. absurd (farther (fewer n m j h l)))
     (le-or-lt (droppedDigits n) j)
   where
-    farther : apart n (significandOf n * 2 ^ droppedDigits n) < apart n (m * 2 ^ j) → ⊥
+    farther : absDiff n (significandOf n * 2 ^ droppedDigits n) < absDiff n (m * 2 ^ j) → ⊥
     farther g = omega arith
 
 -- ---- with signs
 
-same-sign : (s : Bool) (n m : ℕ) → natAbs (signed s n -ℤ signed s m) ≡ apart n m
-same-sign false n m = ap natAbs (sub-signed n m) ∙ natAbs-signed (ltb n m) (apart n m)
+same-sign : (s : Bool) (n m : ℕ) → natAbs (signed s n -ℤ signed s m) ≡ absDiff n m
+same-sign false n m = ap natAbs (sub-signed n m) ∙ natAbs-signed (ltb n m) (absDiff n m)
 same-sign true n m = simp ints (omega arith)
 
 other-sign : (s : Bool) (n m : ℕ) → natAbs (signed s n -ℤ signed (not s) m) ≡ n + m
@@ -127,7 +127,7 @@ module _ (s : Bool) (n : ℕ) where
       turned : {u : Bool} → t ≡ u → natAbs (signed s n -ℤ signed t (m * 2 ^ j)) ≡ natAbs (signed s n -ℤ signed u (m * 2 ^ j))
       turned e = ap (λ (x : Bool). natAbs (signed s n -ℤ signed x (m * 2 ^ j))) e
 
-      farther : (n a : ℕ) → apart n (0 * 2 ^ 0) ≤ n + a
+      farther : (n a : ℕ) → absDiff n (0 * 2 ^ 0) ≤ n + a
       farther n a = omega arith
 
   -- a value of the other sign is as near only if it is 0, which has both signs
@@ -140,20 +140,20 @@ module _ (s : Bool) (n : ℕ) where
 
   even-signed : (t : Bool) (m j : ℕ) → m < 2 ^ 53 → (signed t (m * 2 ^ j) ≡ signed s size-of → ⊥) → natAbs (signed s n -ℤ signed s size-of) ≡ natAbs (signed s n -ℤ signed t (m * 2 ^ j)) → significandOf n % 2 ≡ 0
   even-signed t m j h d e =
-      let e′ : apart n size-of ≡ natAbs (signed s n -ℤ signed t (m * 2 ^ j)) = sym (same-sign s n size-of) ∙ e in
+      let e′ : absDiff n size-of ≡ natAbs (signed s n -ℤ signed t (m * 2 ^ j)) = sym (same-sign s n size-of) ∙ e in
       ⊎-elim (λ g. same g e′) (λ g. other g e′) (by-sign s t)
     where
-      same : t ≡ s → apart n size-of ≡ natAbs (signed s n -ℤ signed t (m * 2 ^ j)) → significandOf n % 2 ≡ 0
+      same : t ≡ s → absDiff n size-of ≡ natAbs (signed s n -ℤ signed t (m * 2 ^ j)) → significandOf n % 2 ≡ 0
       same g f =
           digits-even n m j h (λ k. d (ap₂ (λ (x : Bool) (y : ℕ). signed x y) g k))
           (f ∙ ap (λ (x : Bool). natAbs (signed s n -ℤ signed x (m * 2 ^ j))) g ∙ same-sign s n (m * 2 ^ j))
 
-      other : t ≡ not s → apart n size-of ≡ natAbs (signed s n -ℤ signed t (m * 2 ^ j)) → significandOf n % 2 ≡ 0
+      other : t ≡ not s → absDiff n size-of ≡ natAbs (signed s n -ℤ signed t (m * 2 ^ j)) → significandOf n % 2 ≡ 0
       other g f =
-          let a : apart n size-of ≡ n + m * 2 ^ j = f ∙ ap (λ (x : Bool). natAbs (signed s n -ℤ signed x (m * 2 ^ j))) g ∙ other-sign s n (m * 2 ^ j) in
+          let a : absDiff n size-of ≡ n + m * 2 ^ j = f ∙ ap (λ (x : Bool). natAbs (signed s n -ℤ signed x (m * 2 ^ j))) g ∙ other-sign s n (m * 2 ^ j) in
           let b = digits-near n 0 0 (pow-pos 53) in
           let z : m * 2 ^ j ≡ 0 = omega arith in
-          let w : apart n size-of ≡ apart n (0 * 2 ^ 0) = omega arith in
+          let w : absDiff n size-of ≡ absDiff n (0 * 2 ^ 0) = omega arith in
           digits-even n 0 0 (pow-pos 53) (λ k. d (ap (signed t) z ∙ nothing t ∙ ap (signed s) k)) w
 
 -- ---- the bits of the sum

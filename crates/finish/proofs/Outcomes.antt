@@ -18,7 +18,7 @@ use Rattle.finish.specs.Sum.{nearestDouble, tooLarge}
 use Rattle.finish.specs.Figure.{beyond}
 use Rattle.finish.specs.Finish.{sumOf, figureFor, figureOf, lineFor, lineOf, finishing, sumOutcome, lineOutcome}
 use Rattle.finish.specs.Answer.{sumAnswer}
-use Rattle.finish.specs.Steps.{LookedUp, sumFor, FiniteSum, figureBy, lineBy}
+use Rattle.finish.specs.Steps.{LookedUp, keptSum, FiniteSum, figureBy, lineBy}
 use Rattle.record.specs.declared.Record.{Record}
 use Rattle.finish.specs.declared.FinishedLine.{FinishedLine}
 use Rattle.finish.specs.declared.Lookup.{Lookup}
@@ -44,10 +44,10 @@ by-size k P large small = go (tooLarge k) (nearest-finite k)
 abbrev sumBy : Section → Bool → Outcome Float
 sumBy s b = cond b (refused 14) (accepted (nearestDouble (kept s)))
 
-pub sum-for : (s : Section) → sumAnswer (sumFor (kept s)) ≡ sumOf (some s)
+pub sum-for : (s : Section) → sumAnswer (keptSum (kept s)) ≡ sumOf (some s)
 sum-for s = by-size (kept s) (λ (b : Bool). sumAnswer (cond b TooLarge (Finite (nearestDouble (kept s)))) ≡ sumBy s b) refl (λ f. refl)
 
-pub finite-for : (k : ℤ) → FiniteSum (sumFor k)
+pub finite-for : (k : ℤ) → FiniteSum (keptSum k)
 finite-for k = by-size k (λ (b : Bool). FiniteSum (cond b TooLarge (Finite (nearestDouble k)))) tt (λ f. f)
 
 pub figure-by : (s : Section) → figureOf (some s) ≡ figureBy (sumOf (some s))

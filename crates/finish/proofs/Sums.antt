@@ -18,7 +18,7 @@ use Rattle.limbs.specs.Nearest.{nearestBy}
 use Rattle.limbs.specs.Packed.{packed, infinite, signBit}
 use Rattle.limbs.proofs.Nearest.{le-or-lt}
 use Rattle.limbs.proofs.Packed.{packed-value}
-use Rattle.finish.specs.Steps.{sumFor, sumOfBits}
+use Rattle.finish.specs.Steps.{keptSum, sumOfBits}
 use Rattle.finish.specs.declared.SectionSum.the-variants.{Finite, TooLarge}
 use Rattle.finish.proofs.Limit.{limit-number, limit-infinite, limit-finite, limit-inf, inf-limit}
 
@@ -49,14 +49,14 @@ bits-positive n s h e = ap (λ (x : ℕ). Finite (ofBits binary64 x)) (sym (zero
 
 -- ---- the answer of a kept value
 
-pub answer : (k : ℤ) → sumOfBits (packed (natAbs k)) (not (nonNeg k)) ≡ sumFor k
+pub answer : (k : ℤ) → sumOfBits (packed (natAbs k)) (not (nonNeg k)) ≡ keptSum k
 unfolding tooLarge nearestDouble
 answer k = ⊎-elim (λ h. large h) (λ h. small h) (le-or-lt limit (natAbs k))
   where
-    large : limit ≤ natAbs k → sumOfBits (packed (natAbs k)) (not (nonNeg k)) ≡ sumFor k
+    large : limit ≤ natAbs k → sumOfBits (packed (natAbs k)) (not (nonNeg k)) ≡ keptSum k
     large h = sym (bits-large (packed (natAbs k)) (not (nonNeg k)) (limit-infinite (natAbs k) h)) ∙ rw (le-leb limit (natAbs k) h)
 
-    small : natAbs k < limit → sumOfBits (packed (natAbs k)) (not (nonNeg k)) ≡ sumFor k
+    small : natAbs k < limit → sumOfBits (packed (natAbs k)) (not (nonNeg k)) ≡ keptSum k
     small h =
         let f = limit-finite (natAbs k) h in
         sym (bits-finite (packed (natAbs k)) (not (nonNeg k)) f) ∙ ap Finite (packed-value (not (nonNeg k)) (natAbs k) f) ∙ rw (lt-leb limit (natAbs k) h)
@@ -66,7 +66,7 @@ unfolding size nearestBy
 zero-bits = refl
 
 -- a kept value of 0 gives +0
-pub answer-zero : (k : ℤ) → natAbs k ≡ 0 → not (nonNeg k) ≡ false → Finite (ofBits binary64 0) ≡ sumFor k
+pub answer-zero : (k : ℤ) → natAbs k ≡ 0 → not (nonNeg k) ≡ false → Finite (ofBits binary64 0) ≡ keptSum k
 answer-zero k e f = sym (ap (λ (n : ℕ). sumOfBits (packed n) (not (nonNeg k))) e ∙ ap (λ (s : Bool). sumOfBits (packed 0) s) f ∙ zero-bits) ∙ answer k
 
 -- the sum of a kept value that is not too large is a finite float

@@ -6,10 +6,10 @@ use Rattle.refusal.specs.Number.{numberOf}
 use Rattle.finish.specs.declared.SectionSum.{SectionSum}
 use Rattle.finish.specs.declared.SectionSum.the-variants.{Finite, Absent, TooLarge, NotSound}
 use Rattle.finish.specs.declared.FigureAnswer.{FigureAnswer}
-use Rattle.finish.specs.declared.FigureAnswer.the-variants as figures
+use Rattle.finish.specs.declared.FigureAnswer.the-variants as figureAnswers
 use Rattle.finish.specs.declared.FinishedLine.{FinishedLine}
 use Rattle.finish.specs.declared.LineAnswer.{LineAnswer}
-use Rattle.finish.specs.declared.LineAnswer.the-variants as lines
+use Rattle.finish.specs.declared.LineAnswer.the-variants as lineAnswers
 
 -- a sum's four cases: a finite double, 13, 14 and 7
 abbrev pub sumAnswer : SectionSum → Outcome Float
@@ -20,10 +20,10 @@ sumAnswer NotSound = refused 7
 
 -- a mill figure, or the refusal's number
 abbrev pub figureAnswer : FigureAnswer → Outcome ℤ
-figureAnswer (figures.Figure z) = accepted z
-figureAnswer (figures.Refused r) = refused (numberOf r)
+figureAnswer (figureAnswers.Figure z) = accepted z
+figureAnswer (figureAnswers.Refused r) = refused (numberOf r)
 
 -- a finished line, or the refusal's number
 abbrev pub lineAnswer : LineAnswer → Outcome FinishedLine
-lineAnswer (lines.Line l) = accepted l
-lineAnswer (lines.Refused r) = refused (numberOf r)
+lineAnswer (lineAnswers.Line l) = accepted l
+lineAnswer (lineAnswers.Refused r) = refused (numberOf r)

@@ -1,4 +1,4 @@
--- Sums, mill figures and lines beside the bench book's, from the definitions: the rows of a section, and what finishing gives. One list each, one claim.
+-- Sums, mill figuresOfRows and lines beside the bench book's, from the definitions: the rows of a section, and what finishing gives. One list each, one claim.
 use Prim.Native.Nat.{ℕ, _-_, _*_, _^_}
 use mathlib.Core.Path.{_≡_, refl}
 use mathlib.Core.Bool.{true, false}
@@ -33,8 +33,8 @@ figureOfRow : ℕ → Outcome ℤ
 figureOfRow b = figureOf (some (sectionOfRows (b ∷ [])))
 
 -- the sum with these bits
-double : ℕ → Outcome Float
-double b = accepted (ofBits binary64 b)
+sumWithBits : ℕ → Outcome Float
+sumWithBits b = accepted (ofBits binary64 b)
 
 -- subnormals; a tie down, up and just passed, on either side of 0; the bound of 14 and one unit of the lowest level below it, on either side
 rowSets : List (List ℕ)
@@ -49,14 +49,14 @@ rowSets =
     ∷ (0xFFEFFFFFFFFFFFFF ∷ 0xFC90000000000000 ∷ []) ∷ (0xFFEFFFFFFFFFFFFF ∷ 0xFC8FFFFFFFFFFE00 ∷ [])
     ∷ []
 
--- their sums
-sums : List (Outcome Float)
-sums =
-    double 3 ∷ double 0x0010000000000000 ∷ double 0x8000000000000003
-    ∷ double 0x3FF0000000000000 ∷ double 0x3FF0000000000002 ∷ double 0x3FF0000000000001
-    ∷ double 0xBFF0000000000000 ∷ double 0xBFF0000000000002
-    ∷ refused 14 ∷ double 0x7FEFFFFFFFFFFFFF
-    ∷ refused 14 ∷ double 0xFFEFFFFFFFFFFFFF
+-- their sumsOfRows
+sumsOfRows : List (Outcome Float)
+sumsOfRows =
+    sumWithBits 3 ∷ sumWithBits 0x0010000000000000 ∷ sumWithBits 0x8000000000000003
+    ∷ sumWithBits 0x3FF0000000000000 ∷ sumWithBits 0x3FF0000000000002 ∷ sumWithBits 0x3FF0000000000001
+    ∷ sumWithBits 0xBFF0000000000000 ∷ sumWithBits 0xBFF0000000000002
+    ∷ refused 14 ∷ sumWithBits 0x7FEFFFFFFFFFFFFF
+    ∷ refused 14 ∷ sumWithBits 0xFFEFFFFFFFFFFFFF
     ∷ []
 
 -- 0.375 and -0.375; 1.5; the doubles on either side of 0.005, of -0.005, of 21474836.475 and of its negative;
@@ -79,9 +79,9 @@ natural n = accepted (pos n)
 negated : ℕ → Outcome ℤ
 negated n = accepted (negℤ (pos n))
 
--- their figures
-figures : List (Outcome ℤ)
-figures =
+-- their figuresOfRows
+figuresOfRows : List (Outcome ℤ)
+figuresOfRows =
     natural 38 ∷ negated 37 ∷ natural 150
     ∷ natural 0 ∷ natural 1 ∷ natural 0 ∷ negated 1
     ∷ natural 2147483647 ∷ refused 15 ∷ negated 2147483647 ∷ refused 15
@@ -91,8 +91,8 @@ figures =
     ∷ []
 
 -- the one claim
-cases : (map sumOfRows rowSets ≡ sums) × (map figureOfRow figureRows ≡ figures)
-unfolding sectionOfRows sumOfRows figureOfRow rowSets sums figureRows figures double natural negated top contribution topOf total kept nearestDouble tooLarge millFigure beyond round ofBits
+cases : (map sumOfRows rowSets ≡ sumsOfRows) × (map figureOfRow figureRows ≡ figuresOfRows)
+unfolding sectionOfRows sumOfRows figureOfRow rowSets sumsOfRows figureRows figuresOfRows sumWithBits natural negated top contribution topOf total kept nearestDouble tooLarge millFigure beyond round ofBits
 cases = (refl, refl)
 
 -- at the bound of 14, and one unit of 2^-1074 below it

@@ -27,8 +27,8 @@ LookedUp lookups.Missing s g k = (sound s g ≡ true) × (find k (sections s g) 
 LookedUp lookups.Unsound s g k = sound s g ≡ false
 
 -- the answer for a kept value
-abbrev pub sumFor : ℤ → SectionSum
-sumFor k = cond (tooLarge k) TooLarge (Finite (nearestDouble k))
+abbrev pub keptSum : ℤ → SectionSum
+keptSum k = cond (tooLarge k) TooLarge (Finite (nearestDouble k))
 
 -- what a sign and the other 63 bits stand for: from the exponent field 2047 on the sum is too large
 abbrev pub sumOfBits : ℕ → Bool → SectionSum

@@ -19,7 +19,7 @@ ghost use Rattle.limbs.specs.Nearest.{nearestBy};
 ghost use Rattle.finish.specs.Figure.{millFigure, beyond};
 ghost use Rattle.finish.specs.Finish.{figureOf, lineOf, sumOutcome, figureOutcome, lineOutcome};
 ghost use Rattle.finish.specs.Answer.{sumAnswer, figureAnswer, lineAnswer};
-ghost use Rattle.finish.specs.Steps.{LookedUp, sumFor, sumOfBits, FiniteSum, figureBy, lineBy};
+ghost use Rattle.finish.specs.Steps.{LookedUp, keptSum, sumOfBits, FiniteSum, figureBy, lineBy};
 ghost use Rattle.finish.specs.Raised.{carryRaise, totalRaise, raisedCarry, raisedTotal, Stacked};
 
 // A section's sum: a finite double, absent, or too large; or the table is not sound.
@@ -112,7 +112,7 @@ fn sum_of_bits(bits: u64, negative: bool) -> SectionSum
 // The sum of a sound record: the double nearest to its kept value, whose first limb counts level top - 2.
 pub fn record_sum(r: Record) -> SectionSum
     requires { ⌜ T (soundRecord r) ⌝ }
-    ensures { λ x. ⌜ x ≡ sumFor (kept (meaning r)) ⌝ }
+    ensures { λ x. ⌜ x ≡ keptSum (kept (meaning r)) ⌝ }
 {
     let d = limbs::abs_diff(raised_limbs(r.high, r.middle, r.low), raise());
     let size = d.limbs;

@@ -4,7 +4,8 @@ use libc::STDIN_FILENO;
 use libc::STDOUT_FILENO;
 use report::Printed;
 ghost use Prim.Native.Nat.{_-_, _≤_};
-ghost use lib.ListN.{length};
+ghost use mathlib.Core.Path.{_≡_};
+ghost use lib.ListN.{length, take};
 ghost use Rattle.girths.specs.Input.{AtMost};
 
 // How many bytes were read, or that a read failed.
@@ -13,10 +14,11 @@ enum Received {
     Failed,
 }
 
-// One read after the first done bytes.
+// One read after the first done bytes, which stay.
 fn read_more(buffer: &mut [u8], done: usize) -> Received
     requires { ⌜ done ≤ length (now buffer) ⌝ }
     ensures { λ r. ⌜ AtMost (length (now (buffer .entry)) - done) r ⌝ }
+    ensures { λ _. ⌜ take done (now (buffer .exit)) ≡ take done (now (buffer .entry)) ⌝ }
 {
     let got = libc::read(STDIN_FILENO, &mut buffer[done..]);
     if got < 0 {

@@ -41,7 +41,7 @@ absent-is k (b ∷ bs) e = absurd (omega arith)
 -- ---- a table after a list of calls
 module _ (h : History) where
   lent-is : All (λ (c : Call). not (lendsBytes c) ≡ false) (h .calls)
-  lent-is = any-false (λ (c : Call). not (lendsBytes c)) (h .calls) (h .lent)
+  lent-is = any-false (λ (c : Call). not (lendsBytes c)) (h .calls) (h .in-bytes)
 
   answered-is : answers (empty h) (h .calls) ≡ answersRows (lengths h) noRows (h .calls)
   answered-is = answers-are (h .initial) (empty h) noRows (agrees-none (h .initial)) (h .calls) lent-is

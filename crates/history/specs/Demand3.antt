@@ -20,7 +20,7 @@ use Rattle.history.specs.Run.{Store, State, noGroups, stateAfter, askTab
 pub record History : Type 0 where
   pub initial : ℕ → List ℕ
   pub calls : List Call
-  pub lent : anyOf (λ (c : Call). not (lendsBytes c)) calls ≡ false
+  pub in-bytes : anyOf (λ (c : Call). not (lendsBytes c)) calls ≡ false
 
 -- the state at the start: every table is empty
 abbrev pub empty : History → State

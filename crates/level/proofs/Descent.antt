@@ -12,7 +12,7 @@ use lib.Ieee.Nearest.{closest, closest-same}
 use borrow.Author.Tests.{lt-ltb, le-ltb}
 use Rattle.level.specs.Double.{signed, negative, exponentField, significand, magnitude, value}
 use Rattle.level.specs.Level.{unit, nearestTo, left, given, below, top, contribution}
-use Rattle.level.specs.Cut.{shiftOf, apart, restOf, roundedUp, flippedIf}
+use Rattle.level.specs.Cut.{shiftOf, absDiff, restOf, roundedUp, flippedIf}
 use Rattle.level.proofs.Near.{closest-small, closest-whole}
 use Rattle.level.proofs.Signs.{sub-signed}
 use Rattle.level.proofs.Top.{top-place}
@@ -22,8 +22,8 @@ use Rattle.level.proofs.Given.{unit-pos, unit-suc, nearest-neg, left-ne
 sub-scale : (a b s : ℕ) → (a - b) * s ≡ a * s - b * s
 sub-scale a b s = mul-comm (a - b) s ∙ mul-sub s a b ∙ ap₂ _-_ (mul-comm s a) (mul-comm s b)
 
-apart-scale : (x y s : ℕ) → apart (x * s) (y * s) ≡ apart x y * s
-apart-scale x y s = rw (add-mul, sub-scale x y s, sub-scale y x s)
+absDiff-scale : (x y s : ℕ) → absDiff (x * s) (y * s) ≡ absDiff x y * s
+absDiff-scale x y s = rw (add-mul, sub-scale x y s, sub-scale y x s)
 
 ltb-scale : (a b s : ℕ) → 0 < s → ltb (a * s) (b * s) ≡ ltb a b
 ltb-scale a b s h =
@@ -41,7 +41,7 @@ module _ (n u x v : ℕ) (u-pos : 0 < u) (v-pos : 0 < v) (same : n * v ≡ x * u
   whole = rw same-units (omega arith)
 
   same-rest : restOf n u * v ≡ restOf x v * u
-  same-rest = sym (apart-scale n (closest n u * u) v) ∙ ap₂ apart same whole ∙ apart-scale x (closest x v * v) u
+  same-rest = sym (absDiff-scale n (closest n u * u) v) ∙ ap₂ absDiff same whole ∙ absDiff-scale x (closest x v * v) u
 
   same-direction : roundedUp n u ≡ roundedUp x v
   same-direction = sym (ltb-scale n (closest n u * u) v v-pos) ∙ ap₂ ltb same whole ∙ ltb-scale x (closest x v * v) u u-pos
@@ -59,8 +59,8 @@ module _ (x u s : ℕ) (u-pos : 0 < u) (s-pos : 0 < s) where
 
   pub rest-scale : restOf (x * s) (u * s) ≡ restOf x u * s
   rest-scale =
-      ap (λ (c : ℕ). apart (x * s) (c * (u * s))) units-scale ∙ ap (apart (x * s)) (sym (mul-assoc (closest x u) u s))
-      ∙ apart-scale x (closest x u * u) s
+      ap (λ (c : ℕ). absDiff (x * s) (c * (u * s))) units-scale ∙ ap (absDiff (x * s)) (sym (mul-assoc (closest x u) u s))
+      ∙ absDiff-scale x (closest x u * u) s
 
 -- ---- by sign and size
 neg-signed : (g : Bool) (n : ℕ) → negℤ (signed g n) ≡ signed (not g) n

@@ -12,7 +12,7 @@ use lib.Pow.{pow-pos, pow-mono, pow-add}
 use lib.Ieee.Nearest.{closest}
 use borrow.Author.Tests.{eqb-true, eqb-false}
 use Rattle.level.specs.Level.{unit, nearestTo, left, given}
-use Rattle.level.specs.Cut.{apart, restOf, roundedUp}
+use Rattle.level.specs.Cut.{absDiff, restOf, roundedUp}
 use Rattle.level.proofs.Near.{closest-near, closest-le, closest-small}
 use Rattle.integers.proofs.Laws.{natAbs-neg, negℤ-*ℤ}
 use Rattle.level.proofs.Signs.{natAbs-signed, sub-signed}
@@ -47,11 +47,11 @@ pub left-neg : (z : ℤ) (j : ℕ) → left (negℤ z) j ≡ negℤ (left z j)
 left-neg z j = rw (nearest-neg z (unit j) (unit-pos j), negℤ-*ℤ, ← negℤ-+ℤ)
 
 -- at most half a unit of the level
-apart-half : (x y u : ℕ) → x * 2 ≤ y * 2 + u → y * 2 ≤ x * 2 + u → apart x y * 2 ≤ u
-apart-half x y u a b = omega arith
+absDiff-half : (x y u : ℕ) → x * 2 ≤ y * 2 + u → y * 2 ≤ x * 2 + u → absDiff x y * 2 ≤ u
+absDiff-half x y u a b = omega arith
 
 pub rest-half : (x u : ℕ) → 0 < u → restOf x u * 2 ≤ u
-rest-half x u h = let near = closest-near x u h in apart-half x (closest x u * u) u (near .lower) (near .upper)
+rest-half x u h = let near = closest-near x u h in absDiff-half x (closest x u * u) u (near .lower) (near .upper)
 
 size-left : (x j : ℕ) → natAbs (left (pos x) j) ≡ restOf x (unit j)
 size-left x j = ap natAbs (sub-signed x (closest x (unit j) * unit j)) ∙ natAbs-signed (roundedUp x (unit j)) (restOf x (unit j))

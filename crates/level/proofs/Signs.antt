@@ -11,21 +11,21 @@ use mir.Val.{SFits}
 use borrow.Author.Tests.{ltb-true, ltb-false}
 use Rattle.integers.proofs.Laws.{natAbs-neg}
 use Rattle.level.specs.Double.{signed}
-use Rattle.level.specs.Cut.{apart}
+use Rattle.level.specs.Cut.{absDiff}
 
 pub natAbs-signed : (g : Bool) (n : ℕ) → natAbs (signed g n) ≡ n
 natAbs-signed true n = natAbs-neg (pos n)
 natAbs-signed false n = refl
 
 -- a difference of two sizes has the size of their distance
-pub sub-signed : (x y : ℕ) → pos x -ℤ pos y ≡ signed (ltb x y) (apart x y)
+pub sub-signed : (x y : ℕ) → pos x -ℤ pos y ≡ signed (ltb x y) (absDiff x y)
 sub-signed x y = sub-is y ∙ by (ltb x y) refl
   where
     sub-is : (y : ℕ) → pos x -ℤ pos y ≡ subℕ x y
     sub-is zero = simp (leb·suc-zero, add-zero, sub-zero)
     sub-is (suc y) = refl
 
-    by : (b : Bool) → ltb x y ≡ b → cond b (negsuc (y - suc x)) (pos (x - y)) ≡ signed b (apart x y)
+    by : (b : Bool) → ltb x y ≡ b → cond b (negsuc (y - suc x)) (pos (x - y)) ≡ signed b (absDiff x y)
     by true e =
         let h = ltb-true x y e in
         let k : x - y + (y - x) ≡ suc (y - suc x) = omega arith in

@@ -11,12 +11,12 @@ abbrev pub shiftOf : ℕ → ℕ
 shiftOf b = 40 * top b - (exponentField b - 1)
 
 -- how far apart two sizes are
-abbrev pub apart : ℕ → ℕ → ℕ
-apart x y = x - y + (y - x)
+abbrev pub absDiff : ℕ → ℕ → ℕ
+absDiff x y = x - y + (y - x)
 
 -- the size of what is left of x after its whole number of units u
 abbrev pub restOf : ℕ → ℕ → ℕ
-restOf x u = apart x (closest x u * u)
+restOf x u = absDiff x (closest x u * u)
 
 -- whether that is negative
 abbrev pub roundedUp : ℕ → ℕ → Bool

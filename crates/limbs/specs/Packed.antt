@@ -18,7 +18,7 @@ droppedDigits n = size n - 53
 abbrev pub significandOf : ℕ → ℕ
 significandOf n = nearestBy isOdd n (2 ^ droppedDigits n)
 
--- the bits of the double nearest to n units, without the sign: the exponent field stands below the hidden digit, which adds one to it
+-- the bits of the double nearest to n units, without the sign: the hidden digit, which stands where the exponent field begins, adds one to it
 abbrev pub packed : ℕ → ℕ
 packed n = droppedDigits n * 2 ^ 52 + significandOf n
 

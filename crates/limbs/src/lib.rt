@@ -12,7 +12,7 @@ ghost use Rattle.limbs.specs.Packed.{leadingDigits, packed, unitsOf};
 pub const LIMB: u64 = 1 << 40;
 
 // The largest limb.
-const LARGEST: u64 = (1 << 40) - 1;
+const LARGEST_LIMB: u64 = (1 << 40) - 1;
 
 // The same number with 40 digits in each of the first three limbs.
 pub fn propagate(a: [u64; 4]) -> [u64; 4]
@@ -49,9 +49,9 @@ fn difference_with_bias(a: [u64; 4], b: [u64; 4]) -> [u64; 4]
 {
     propagate([
         limb_difference(a[0], b[0], LIMB),
-        limb_difference(a[1], b[1], LARGEST),
-        limb_difference(a[2], b[2], LARGEST),
-        limb_difference(a[3], b[3], LARGEST),
+        limb_difference(a[1], b[1], LARGEST_LIMB),
+        limb_difference(a[2], b[2], LARGEST_LIMB),
+        limb_difference(a[3], b[3], LARGEST_LIMB),
     ])
 }
 
@@ -194,7 +194,7 @@ fn leading_digits(a: [u64; 4]) -> u64
     round_by(q, lower_digits(a), 1 << 27, q % 2 == 1)
 }
 
-// The bits with this field below these digits; a hidden digit among them adds one to the field.
+// The bits with this exponent field above these digits; a hidden digit among them adds one to the field.
 fn assemble(exponent: u64, digits: u64) -> u64
     requires { ⌜ (exponent < 2 ^ 12) × (exponent * 2 ^ 52 + digits < 2 ^ 64) ⌝ }
     ensures { λ r. ⌜ r ≡ exponent * 2 ^ 52 + digits ⌝ }

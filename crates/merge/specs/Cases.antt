@@ -2,11 +2,10 @@
 use Prim.Native.Nat.{ℕ}
 use mathlib.Core.Path.{_≡_, refl}
 use mathlib.Core.List.{List, [], _++_}
-use lib.IntN.{pos}
 use lib.ListN.{replicate}
 use Rattle.codec.specs.Bytes.{number, bytes, numberAt}
 use Rattle.codec.specs.Cells.{cells, image}
-use Rattle.level.specs.declared.SplitTotal.{SplitTotal}
+use Rattle.record.specs.Cases.{nothing}
 use Rattle.record.specs.Layout.{decode, encode}
 use Rattle.record.specs.Keys.{rising}
 use Rattle.record.specs.Sound.{soundTotal, isZero, soundRecord, soundRecords, sound}
@@ -14,10 +13,6 @@ use Rattle.refusal.specs.Outcome.{accepted, refused}
 use Rattle.table.specs.Combine.{levelOf, combine, absorb, merged}
 use Rattle.table.specs.Calls.{mergeGrounds, mergeOutcome, mergeLeaves}
 use Rattle.lists.specs.Lists.{anyOf}
-
--- the total 0
-abbrev nothing : SplitTotal
-nothing = record { residue = 0; carry = pos 0 }
 
 -- a table of one record: its rows are n zeros
 abbrev zeroRows : ℕ → ℕ → List ℕ

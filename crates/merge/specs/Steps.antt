@@ -25,7 +25,7 @@ countAt s i = numberAt 4 s (i * 64 + 4)
 abbrev pub sectionIn : List ℕ → ℕ → Section
 sectionIn s i = meaning (recordAt s (i * 64))
 
--- one record is taken off the end of one table, or of both
+-- e leaves fewer records of the two tables, of neither more than there were, and both tables lie in their bytes
 pub record Within (s : List ℕ) (i : ℕ) (s′ : List ℕ) (j : ℕ) (e : Ends) : Type 0 where
   pub first : e .i ≤ i
   pub second : e .j ≤ j

@@ -16,7 +16,7 @@ use Rattle.level.specs.Carry.{totalOf}
 use Rattle.record.specs.Sound.{soundTotal, isZero, soundRecord, soundRecords, sound}
 
 -- the total 0
-abbrev nothing : SplitTotal
+abbrev pub nothing : SplitTotal
 nothing = record { residue = 0; carry = pos 0 }
 
 -- B2, the row -1: first residue 1125882726973440, carry -1, top 26
@@ -34,7 +34,7 @@ b2-sound : soundRecord b2 ≡ true
 unfolding soundRecord soundTotal isZero
 b2-sound = refl
 
--- a table of oneRecord record, with bytes after it that do not count
+-- a table of one record, with bytes after it that do not count
 abbrev oneRecord : List ℕ
 oneRecord = encode b2 ++ replicate 70 255
 
@@ -54,7 +54,7 @@ gap : place 8 (recordKeys (records oneRecord 1)) ≡ Gap 1
 unfolding has countBelow cells decode encode bytes numberAt number
 gap = refl
 
--- at the bound, and oneRecord past it, on either side
+-- at the bound, and one past it, on either side
 edge : (soundTotal 1 (record { residue = 2 ^ 39; carry = pos 0 }) ≡ true) × (soundTotal 1 (record { residue = 2 ^ 39 + 1; carry = pos 0 }) ≡ false)
 unfolding soundTotal
 edge = (refl, refl)

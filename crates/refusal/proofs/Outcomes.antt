@@ -1,13 +1,13 @@
 -- What an outcome says of its grounds, each named by its number and not by its place in the list.
-use Prim.Native.Nat.{ℕ, _<_}
+use Prim.Native.Nat.{ℕ, suc, _<_}
 use mathlib.Core.Path.{_≡_, refl, sym, ap, _∙_}
-use mathlib.Core.Bool.{Bool, true, false, cond, _&&_}
+use mathlib.Core.Bool.{Bool, true, false, cond, _&&_, true≢false}
 use mathlib.Core.List.{List, [], _∷_, _++_}
 use native.Mathlib.Omega.{arith}
-use borrow.Author.Tests.{ltb-true}
-use lib.Dec.{eqb, ltb}
+use borrow.Author.Tests.{ltb-true, leb-true, eq-eqb, ne-eqb}
+use lib.Dec.{eqb, ltb, leb}
 use Rattle.lists.proofs.Booleans.{both-true, both-false}
-use Rattle.refusal.specs.Outcome.{accepted, refused, Ground, outcome, condition, isRefusal, isGround}
+use Rattle.refusal.specs.Outcome.{accepted, refused, Ground, ground, outcome, condition, IsLowest, risingFrom, isRefusal, isGround}
 
 pub accepted≢refused : {A : Type 0} {x : A} {n : ℕ} → refused n ≡ accepted x → ⊥
 accepted≢refused e = let z : _≡_ {A = ℕ} 0 1 = cc in omega arith
@@ -20,14 +20,14 @@ first c cs x {y} e = go (c .holds) refl e
     go true h q = absurd (accepted≢refused q)
     go false h q = (h, q)
 
+cond-false : (b : Bool) {h r : Bool} → h ≡ false → r ≡ false → cond b h r ≡ false
+cond-false true h r = h
+cond-false false h r = r
+
 -- of an accepted call no ground holds
 pub accepted-not : {A : Type 0} (n : ℕ) (gs : List Ground) (x : A) {y : A} → outcome gs x ≡ accepted y → condition n gs ≡ false
 accepted-not n [] x e = refl
-accepted-not n (c ∷ cs) x e = let f = first c cs x e in by (eqb n (c .refusal)) (f .0) (accepted-not n cs x (f .1))
-  where
-    by : (b : Bool) → c .holds ≡ false → condition n cs ≡ false → cond b (c .holds) (condition n cs) ≡ false
-    by true h r = h
-    by false h r = r
+accepted-not n (c ∷ cs) x e = let f = first c cs x e in cond-false (eqb n (c .refusal)) (f .0) (accepted-not n cs x (f .1))
 
 -- and it has the value that it was to have
 pub accepted-value : {A : Type 0} (gs : List Ground) (x : A) {y : A} → outcome gs x ≡ accepted y → x ≡ y
@@ -49,6 +49,30 @@ refused-below m (c ∷ cs) x {n} b e = let p = both-true (ltb (c .refusal) m) (n
     go : (h : Bool) → c .refusal < m → (outcome cs x ≡ refused n → n < m) → cond h (refused (c .refusal)) (outcome cs x) ≡ refused n → n < m
     go true l ih q = let z : c .refusal ≡ n = cc in rw (← z) l
     go false l ih q = ih q
+
+-- a list whose numbers are l or above has no condition below
+none-below : (l : ℕ) (gs : List Ground) → risingFrom l gs ≡ true → (m : ℕ) → m < l → condition m gs ≡ false
+none-below l [] r m h = refl
+none-below l (c ∷ cs) r m h =
+    let p = both-true (leb l (c .refusal)) (risingFrom (suc (c .refusal)) cs) r in
+    let a = leb-true l (c .refusal) (p .0) in
+    rw (ne-eqb m (c .refusal) (λ e. omega arith)) (none-below (suc (c .refusal)) cs (p .1) m (omega arith))
+
+-- where the grounds' numbers rise, the number given is the lowest whose condition holds
+pub lowest : {A : Type 0} (l : ℕ) (gs : List Ground) (x : A) {n : ℕ} → risingFrom l gs ≡ true → outcome gs x ≡ refused n → IsLowest n gs
+lowest l [] x r e = absurd (accepted≢refused (sym e))
+lowest l (c ∷ cs) x {n} r e =
+    let p = both-true (leb l (c .refusal)) (risingFrom (suc (c .refusal)) cs) r in
+    go (c .holds) (none-below (suc (c .refusal)) cs (p .1)) (lowest (suc (c .refusal)) cs x (p .1)) e
+  where
+    go : (b : Bool) → ((m : ℕ) → m < suc (c .refusal) → condition m cs ≡ false) → (outcome cs x ≡ refused n → IsLowest n cs) → cond b (refused (c .refusal)) (outcome cs x) ≡ refused n
+        → IsLowest n (ground (c .refusal) b ∷ cs)
+    go true f ih q =
+        let z : n ≡ c .refusal = cc in
+        (rw (eq-eqb n (c .refusal) z), λ m h. rw (ne-eqb m (c .refusal) (λ y. omega arith)) (f m (omega arith)))
+    go false f ih q =
+        let i = ih q in
+        (rw (ne-eqb n (c .refusal) (λ z. true≢false (sym (i .0) ∙ f n (omega arith)))) (i .0), λ m h. cond-false (eqb m (c .refusal)) refl (i .1 m h))
 
 -- ---- further grounds
 

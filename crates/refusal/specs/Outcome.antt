@@ -1,15 +1,16 @@
 -- The outcome of a call: the values of an accepted call, or a refusal's number.
-use Prim.Native.Nat.{ℕ}
-use mathlib.Core.Bool.{Bool, false, cond, _||_}
+use Prim.Native.Nat.{ℕ, suc, _<_}
+use mathlib.Core.Path.{_≡_}
+use mathlib.Core.Bool.{Bool, true, false, cond, _&&_, _||_}
 use mathlib.Core.List.{List, [], _∷_}
-use lib.Dec.{eqb}
+use lib.Dec.{eqb, leb}
 
 -- the values of an accepted call, or a refused one's number
 pub data Outcome (A : Type 0) : Type 0 where
   accepted : A → Outcome A
   refused : ℕ → Outcome A
 
--- a line of document 01's table: the refusal's number, and whether its condition holds
+-- a line of the table of refusals: the number, and whether its condition holds
 pub record Ground : Type 0 where
   pub refusal : ℕ
   pub holds : Bool
@@ -27,6 +28,15 @@ outcome (c ∷ cs) x = cond (c .holds) (refused (c .refusal)) (outcome cs x)
 abbrev pub condition : ℕ → List Ground → Bool
 condition n [] = false
 condition n (c ∷ cs) = cond (eqb n (c .refusal)) (c .holds) (condition n cs)
+
+-- n is the lowest number whose condition holds
+abbrev pub IsLowest : ℕ → List Ground → Type 0
+IsLowest n gs = (condition n gs ≡ true) × ((m : ℕ) → m < n → condition m gs ≡ false)
+
+-- the grounds' numbers rise, and the first is l or above
+abbrev pub risingFrom : ℕ → List Ground → Bool
+risingFrom l [] = true
+risingFrom l (c ∷ cs) = leb l (c .refusal) && risingFrom (suc (c .refusal)) cs
 
 -- the outcome is refusal n
 unfoldable pub isRefusal : {A : Type 0} → ℕ → Outcome A → Bool

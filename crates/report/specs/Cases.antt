@@ -7,6 +7,7 @@ use lib.Ieee.{round, toBits, ofBits}
 use Rattle.codec.specs.Bytes.{number, bytes, numberAt}
 use Rattle.codec.specs.Cells.{cells, image}
 use Rattle.level.specs.Level.{top, topFrom, given, contribution}
+use Rattle.patch.specs.Cases.{reportInput}
 use Rattle.patch.specs.File.{mark, marked, outside, overlap, readGrounds, readOutcome, column, keyColumn, valueColumn}
 use Rattle.columns.specs.Columns.{rowsFrom, rowsOf, columnsFit}
 use Rattle.record.specs.Keys.{rising}
@@ -24,16 +25,7 @@ use Rattle.report.specs.Text.{headLine, refusalText, figureField, lastFi
 fileOf : List ℕ → List ℕ → List ℕ
 fileOf ks vs = image (bytes 4) ks ++ image (bytes 8) vs ++ bytes 4 (length ks) ++ bytes 4 (12 * length ks + 16) ++ bytes 4 (8 * length ks + 16) ++ mark
 
--- document 01's input, byte by byte
-sample : List ℕ
-sample =
-    0x01 ∷ 0x00 ∷ 0x00 ∷ 0x00 ∷ 0x02 ∷ 0x00 ∷ 0x00 ∷ 0x00 ∷ 0x01 ∷ 0x00 ∷ 0x00 ∷ 0x00
-    ∷ 0x00 ∷ 0x00 ∷ 0x00 ∷ 0x00 ∷ 0x00 ∷ 0x00 ∷ 0xF0 ∷ 0x3F
-    ∷ 0x00 ∷ 0x00 ∷ 0x00 ∷ 0x00 ∷ 0x00 ∷ 0x00 ∷ 0xC0 ∷ 0x3F
-    ∷ 0x00 ∷ 0x00 ∷ 0x00 ∷ 0x00 ∷ 0x00 ∷ 0x00 ∷ 0xE0 ∷ 0x3F
-    ∷ 0x03 ∷ 0x00 ∷ 0x00 ∷ 0x00 ∷ 0x34 ∷ 0x00 ∷ 0x00 ∷ 0x00 ∷ 0x28 ∷ 0x00 ∷ 0x00 ∷ 0x00 ∷ 0x4C ∷ 0x41 ∷ 0x53 ∷ 0x54 ∷ []
-
--- and its report
+-- the report of document 01's input
 sampleText : List ℕ
 sampleText =
     -- section rows bits hundredths
@@ -82,7 +74,7 @@ infiniteText =
     0x72 ∷ 0x65 ∷ 0x66 ∷ 0x75 ∷ 0x73 ∷ 0x65 ∷ 0x64 ∷ 0x20 ∷ 0x31 ∷ 0x30 ∷ 0x0A
     ∷ []
 
-reports : map reportText (sample ∷ mixed ∷ fileOf [] [] ∷ [] ∷ fileOf (1 ∷ []) (0x7FF0000000000000 ∷ []) ∷ [])
+reports : map reportText (reportInput ∷ mixed ∷ fileOf [] [] ∷ [] ∷ fileOf (1 ∷ []) (0x7FF0000000000000 ∷ []) ∷ [])
     ≡ sampleText ∷ mixedText ∷ headText ∷ refusedText ∷ infiniteText ∷ []
-unfolding sample sampleText fileOf mixed mixedText headText refusedText infiniteText reportText fileText columnsText addText lineText lineWith lastFields figureField refusalText headLine decimal decimalIn digit digits integer number bytes numberAt cells image marked outside overlap readGrounds readOutcome column keyColumn valueColumn rowsFrom rowsOf columnsFit addGrounds columnGrounds anyOf ofRow levelOf combine absorb added top topFrom given contribution rising sound soundRecords kept nearestDouble tooLarge millFigure beyond round toBits ofBits
+unfolding reportInput sampleText fileOf mixed mixedText headText refusedText infiniteText reportText fileText columnsText addText lineText lineWith lastFields figureField refusalText headLine decimal decimalIn digit digits integer number bytes numberAt cells image marked outside overlap readGrounds readOutcome column keyColumn valueColumn rowsFrom rowsOf columnsFit addGrounds columnGrounds anyOf ofRow levelOf combine absorb added top topFrom given contribution rising sound soundRecords kept nearestDouble tooLarge millFigure beyond round toBits ofBits
 reports = refl

@@ -15,8 +15,8 @@ use Rattle.record.specs.declared.Record.{Record}
 use Rattle.record.specs.Sound.{soundRecord}
 use Rattle.record.specs.Section.{Section, meaning}
 use Rattle.record.proofs.Parts.{Empty, SoundParts, sound-record-parts, total-range}
-use Rattle.table.specs.Combine.{levelOf}
-use Rattle.table.specs.Steps.{splitIn, bothAt}
+use Rattle.table.specs.Combine.{levelOf, bothAt}
+use Rattle.table.specs.Steps.{splitIn}
 
 -- ---- what a record holds at level j
 pub split-level : (r : Record) (j : ℕ) → totalOf (splitIn r j) ≡ levelOf (meaning r) j

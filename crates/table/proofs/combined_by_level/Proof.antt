@@ -9,8 +9,7 @@ use Rattle.level.specs.Carry.{splitOf}
 use Rattle.record.specs.declared.Record.{Record}
 use Rattle.record.specs.Section.{meaning, recordOf}
 use Rattle.record.proofs.Parts.{sound-record-parts}
-use Rattle.table.specs.Combine.{combine}
-use Rattle.table.specs.Steps.{bothAt}
+use Rattle.table.specs.Combine.{combine, bothAt}
 use Rattle.table.proofs.combined_by_level.Statement.{statement}
 use Rattle.table.proofs.combined_by_level.Tie as tie
 

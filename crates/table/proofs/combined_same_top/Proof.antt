@@ -7,8 +7,7 @@ use Rattle.level.specs.Level.{below}
 use Rattle.level.specs.Carry.{splitOf}
 use Rattle.record.specs.Section.{meaning}
 use Rattle.record.proofs.Parts.{SoundParts, sound-record-parts, total-range}
-use Rattle.table.specs.Combine.{combine}
-use Rattle.table.specs.Steps.{bothAt}
+use Rattle.table.specs.Combine.{combine, bothAt}
 use Rattle.table.proofs.Totals.{same-top-high, same-top-middle, same-top-low}
 use Rattle.table.proofs.combined_same_top.Statement.{statement}
 use Rattle.table.proofs.combined_same_top.Tie as tie

@@ -39,7 +39,7 @@ use Rattle.exports.proofs.girth_report.Reads as girthReportReads
 use Rattle.exports.proofs.girth_report.Kinds as girthReportKinds
 
 -- one line for each call: whatever the lifetimes κs and the arguments a, nothing is asked
-pub record Total : Type 1 where
+pub record AsksNothing : Type 1 where
   pub of-read : (κs : Lfts 1) (a : Dens κs readKinds.ps) → readReads.Asked κs a
   pub of-keys : (κs : Lfts 1) (a : Dens κs keysKinds.ps) → keysReads.Asked κs a
   pub of-values : (κs : Lfts 1) (a : Dens κs valuesKinds.ps) → valuesReads.Asked κs a
