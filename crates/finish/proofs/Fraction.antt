@@ -33,11 +33,11 @@ value-figure (fin t m e) s a h =
     ap (λ (b : Bool). signed b (nearestBy (λ (q : ℕ). not b) (m * up e * 100) (down e))) (h .0)
     ∙ ap (λ (x : ℕ). signed s x) (nearest-same (λ (q : ℕ). not s) (m * up e * 100) (down e) (a * 100) (2 ^ 1074) (down-pos e) (pow-pos 1074) same)
 
-pub number : (x : Float) → T (Scale.finite x) → T (not (isNan x))
+pub not-nan : (x : Float) → T (Scale.finite x) → T (not (isNan x))
 unfolding isNan
-number nan h = h
-number (inf s) h = tt
-number (fin s m e) h = tt
+not-nan nan h = h
+not-nan (inf s) h = tt
+not-nan (fin s m e) h = tt
 
 -- a finite float, by its bits
 module _ (x : Float) (f : T (fits binary64 x)) (h : T (Scale.finite x)) where

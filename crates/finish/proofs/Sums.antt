@@ -49,9 +49,9 @@ bits-positive n s h e = ap (λ (x : ℕ). Finite (ofBits binary64 x)) (sym (zero
 
 -- ---- the answer of a kept value
 
-pub answer : (k : ℤ) → sumOfBits (packed (natAbs k)) (not (nonNeg k)) ≡ keptSum k
+pub sum-of-kept : (k : ℤ) → sumOfBits (packed (natAbs k)) (not (nonNeg k)) ≡ keptSum k
 unfolding tooLarge nearestDouble
-answer k = ⊎-elim (λ h. large h) (λ h. small h) (le-or-lt limit (natAbs k))
+sum-of-kept k = ⊎-elim (λ h. large h) (λ h. small h) (le-or-lt limit (natAbs k))
   where
     large : limit ≤ natAbs k → sumOfBits (packed (natAbs k)) (not (nonNeg k)) ≡ keptSum k
     large h = sym (bits-large (packed (natAbs k)) (not (nonNeg k)) (limit-infinite (natAbs k) h)) ∙ rw (le-leb limit (natAbs k) h)
@@ -66,8 +66,8 @@ unfolding size nearestBy
 zero-bits = refl
 
 -- a kept value of 0 gives +0
-pub answer-zero : (k : ℤ) → natAbs k ≡ 0 → not (nonNeg k) ≡ false → Finite (ofBits binary64 0) ≡ keptSum k
-answer-zero k e f = sym (ap (λ (n : ℕ). sumOfBits (packed n) (not (nonNeg k))) e ∙ ap (λ (s : Bool). sumOfBits (packed 0) s) f ∙ zero-bits) ∙ answer k
+pub sum-of-zero : (k : ℤ) → natAbs k ≡ 0 → not (nonNeg k) ≡ false → Finite (ofBits binary64 0) ≡ keptSum k
+sum-of-zero k e f = sym (ap (λ (n : ℕ). sumOfBits (packed n) (not (nonNeg k))) e ∙ ap (λ (s : Bool). sumOfBits (packed 0) s) f ∙ zero-bits) ∙ sum-of-kept k
 
 -- the sum of a kept value that is not too large is a finite float
 pub nearest-finite : (k : ℤ) → tooLarge k ≡ false → T (finite (nearestDouble k))

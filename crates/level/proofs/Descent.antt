@@ -71,9 +71,9 @@ nearest-signed : (g : Bool) (n u : ℕ) → 0 < u → nearestTo (signed g n) u �
 nearest-signed true n u h = nearest-neg (pos n) u h
 nearest-signed false n u h = refl
 
-kept : (b : Bool) → b ≡ flippedIf false b
-kept true = refl
-kept false = refl
+not-flipped : (b : Bool) → b ≡ flippedIf false b
+not-flipped true = refl
+not-flipped false = refl
 
 turned : (b : Bool) → not b ≡ flippedIf true b
 turned true = refl
@@ -81,7 +81,7 @@ turned false = refl
 
 left-signed : (g : Bool) (n j : ℕ) → left (signed g n) j ≡ signed (flippedIf g (roundedUp n (unit j))) (restOf n (unit j))
 left-signed false n j =
-    sub-signed n (closest n (unit j) * unit j) ∙ ap (λ (b : Bool). signed b (restOf n (unit j))) (kept (roundedUp n (unit j)))
+    sub-signed n (closest n (unit j) * unit j) ∙ ap (λ (b : Bool). signed b (restOf n (unit j))) (not-flipped (roundedUp n (unit j)))
 left-signed true n j =
     left-neg (pos n) j ∙ ap negℤ (sub-signed n (closest n (unit j) * unit j)) ∙ neg-signed (roundedUp n (unit j)) (restOf n (unit j))
     ∙ ap (λ (b : Bool). signed b (restOf n (unit j))) (turned (roundedUp n (unit j)))

@@ -141,29 +141,29 @@ closest-odd n d = by (n / d) (compare (n % d * 2) d)
 
 -- ---- how near it is: z units d are at most half a unit from n, and at just half a unit above n where ties go up, else below
 
-abbrev pub Within : Bool → ℕ → ℕ → ℕ → Type 0
-Within true n d z = (z * d * 2 ≤ n * 2 + d) × (n * 2 < z * d * 2 + d)
-Within false n d z = (z * d * 2 < n * 2 + d) × (n * 2 ≤ z * d * 2 + d)
+abbrev pub WithinHalf : Bool → ℕ → ℕ → ℕ → Type 0
+WithinHalf true n d z = (z * d * 2 ≤ n * 2 + d) × (n * 2 < z * d * 2 + d)
+WithinHalf false n d z = (z * d * 2 < n * 2 + d) × (n * 2 ≤ z * d * 2 + d)
 
 module _ (tie : ℕ → Bool) (n d : ℕ) (h : 0 < d) where
-  pub nearest-within : Within (tie (n / d)) n d (nearestBy tie n d)
+  pub nearest-within : WithinHalf (tie (n / d)) n d (nearestBy tie n d)
   unfolding nearestBy
   nearest-within =
       let r = n % d in
       let q = n / d in
       let t = tie (n / d) in
-      subst (λ (m : ℕ). Within t m d (rounded t q (compare (r * 2) d))) (div-add-mod' n d)
-      (order-cases (λ (o : Ordering). Within t (q * d + r) d (rounded t q o)) (r * 2) d (less t q r) (half t q r) (more t q r (mod-lt n h)))
+      subst (λ (m : ℕ). WithinHalf t m d (rounded t q (compare (r * 2) d))) (div-add-mod' n d)
+      (order-cases (λ (o : Ordering). WithinHalf t (q * d + r) d (rounded t q o)) (r * 2) d (less t q r) (half t q r) (more t q r (mod-lt n h)))
     where
-      less : (t : Bool) (q r : ℕ) → r * 2 < d → Within t (q * d + r) d q
+      less : (t : Bool) (q r : ℕ) → r * 2 < d → WithinHalf t (q * d + r) d q
       less true q r l = (omega arith, omega arith)
       less false q r l = (omega arith, omega arith)
 
-      half : (t : Bool) (q r : ℕ) → r * 2 ≡ d → Within t (q * d + r) d (cond t (suc q) q)
+      half : (t : Bool) (q r : ℕ) → r * 2 ≡ d → WithinHalf t (q * d + r) d (cond t (suc q) q)
       half true q r l = (omega arith, omega arith)
       half false q r l = (omega arith, omega arith)
 
-      more : (t : Bool) (q r : ℕ) → r < d → d < r * 2 → Within t (q * d + r) d (suc q)
+      more : (t : Bool) (q r : ℕ) → r < d → d < r * 2 → WithinHalf t (q * d + r) d (suc q)
       more true q r g l = (omega arith, omega arith)
       more false q r g l = (omega arith, omega arith)
 
@@ -171,7 +171,7 @@ module _ (tie : ℕ → Bool) (n d : ℕ) (h : 0 < d) where
   pub nearest-near : (nearestBy tie n d * d * 2 ≤ n * 2 + d) × (n * 2 ≤ nearestBy tie n d * d * 2 + d)
   nearest-near = by (tie (n / d)) (nearestBy tie n d) nearest-within
     where
-      by : (t : Bool) (z : ℕ) → Within t n d z → (z * d * 2 ≤ n * 2 + d) × (n * 2 ≤ z * d * 2 + d)
+      by : (t : Bool) (z : ℕ) → WithinHalf t n d z → (z * d * 2 ≤ n * 2 + d) × (n * 2 ≤ z * d * 2 + d)
       by true z w = (w .0, le-of-lt (w .1))
       by false z w = (le-of-lt (w .0), w .1)
 

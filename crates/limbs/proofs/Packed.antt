@@ -27,17 +27,17 @@ size-is n a l h = le-antisymm (size-le n (suc a) h) (lt-of-not-le (λ (g : size 
 
 -- ---- the bits of a finite value of a units of 2^-1074
 
-abbrev written : Bool → ℕ → ℕ
-written s a = signBit s + (size a - 53) * 2 ^ 52 + a / 2 ^ (size a - 53)
+abbrev bitsOfUnits : Bool → ℕ → ℕ
+bitsOfUnits s a = signBit s + (size a - 53) * 2 ^ 52 + a / 2 ^ (size a - 53)
 
-value-bits : (x : Float) (s : Bool) (a : ℕ) → HasValue x s a (2 ^ 1074) → toBits binary64 x ≡ written s a
+value-bits : (x : Float) (s : Bool) (a : ℕ) → HasValue x s a (2 ^ 1074) → toBits binary64 x ≡ bitsOfUnits s a
 unfolding toBits
 value-bits nan s a h = absurd h
 value-bits (inf t) s a h = absurd h
 value-bits (fin t m e) s a h =
     let same : m * up e * 2 ^ 1074 / down e ≡ a = ap (λ (x : ℕ). x / down e) (h .1) ∙ mul-div-cancel a (down-pos e) in
     ap (λ (b : Bool). signBit b + (size (m * up e * 2 ^ 1074 / down e) - 53) * 2 ^ 52 + m * up e * 2 ^ 1074 / down e / 2 ^ (size (m * up e * 2 ^ 1074 / down e) - 53)) (h .0)
-    ∙ ap (λ (x : ℕ). written s x) same
+    ∙ ap (λ (x : ℕ). bitsOfUnits s x) same
 
 -- ---- q times 2^k units, q having its 53 digits or k being 0
 

@@ -8,8 +8,8 @@ use lib.Seq.{sets, sets-eq, take-at, length-take-le}
 use Rattle.numerals.specs.Steps.{Continued}
 
 -- nothing printed
-pub nothing : (s : List ℕ) (at : ℕ) → Continued s at [] 0 s at
-nothing s at = record { text = sym (append-nil (take at s)); room = omega arith }
+pub nothing-printed : (s : List ℕ) (at : ℕ) → Continued s at [] 0 s at
+nothing-printed s at = record { text = sym (append-nil (take at s)); room = omega arith }
 
 -- one continuation after another
 pub then : {s s′ s″ w v : List ℕ} {at k j r q : ℕ} → Continued s at w k s′ r → Continued s′ r v j s″ q → Continued s at (w ++ v) (k + j) s″ q

@@ -58,7 +58,7 @@ pub record TotalInRange (t : SplitTotal) : Type 0 where
   pub residue : t .residue < 2 ^ 64
   pub carry : SFits w64 (t .carry)
 
-pub record InRange (r : Record) : Type 0 where
+pub record FieldsInRange (r : Record) : Type 0 where
   pub key : r .key < 2 ^ 32
   pub count : r .count < 2 ^ 32
   pub top : r .top < 2 ^ 32
@@ -71,7 +71,7 @@ carry-back : (z : ℤ) → SFits w64 z → toZ w64 (numberAt 8 (bytes 8 (ofZ w64
 carry-back z f = ap (toZ w64) (numberAt-bytes 8 (ofZ w64 z) (ofZ-fits w64 z f .fits)) ∙ toZ-ofZ w64 z f
 
 -- reading back what was put
-pub decode-encode : (r : Record) → InRange r → decode (encode r) ≡ r
+pub decode-encode : (r : Record) → FieldsInRange r → decode (encode r) ≡ r
 unfolding decode encode
 decode-encode r h =
     simp (

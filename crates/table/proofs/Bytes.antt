@@ -21,7 +21,7 @@ use Rattle.record.specs.Layout.{encode, decode, records, capacity}
 use Rattle.record.specs.Keys.{recordKeys, rising}
 use Rattle.record.specs.Sound.{soundTotal, isZero, soundRecord, soundRecords, sound}
 use Rattle.record.specs.Section.{Section, meaning, recordOf, sections, sectionBytes, written}
-use Rattle.record.proofs.Laws.{length-encode, TotalInRange, InRange, decode-encode}
+use Rattle.record.proofs.Laws.{length-encode, TotalInRange, FieldsInRange, decode-encode}
 use Rattle.lists.proofs.All.{All}
 use Rattle.table.specs.Calls.{mostRows}
 use Rattle.table.proofs.Lookup.{Above, Rising, keysIn}
@@ -50,7 +50,7 @@ carry-fits (negsuc n) h = record { sfits = omega arith }
 split-in-range : (z : ℤ) → natAbs z ≤ 2 ^ 71 → TotalInRange (splitOf z)
 split-in-range z h = record { residue = omega (arith, residue-lt z); carry = carry-fits z h }
 
-in-range : (s : Section) → Storable s → InRange (recordOf s)
+in-range : (s : Section) → Storable s → FieldsInRange (recordOf s)
 in-range s f =
     let p = f .proper in
     let few = f .few in

@@ -5,7 +5,7 @@ use mir.Val.{SFits}
 use Rattle.refusal.specs.Number.{numberOf}
 use Rattle.finish.specs.Answer.{lineAnswer}
 use Rattle.finish.specs.declared.FinishedLine.{FinishedLine}
-use Rattle.finish.proofs.Fraction.{number}
+use Rattle.finish.proofs.Fraction.{not-nan}
 use Rattle.exports.specs.Calls.{returnsZero, writes, doubleBits}
 use Rattle.finish.proofs.Outcomes.{finite-line}
 use Rattle.exports.proofs.Answers.{refusing, widens, widened}
@@ -14,7 +14,7 @@ use Rattle.exports.proofs.girth_line.Statement.{statement}
 use Rattle.exports.proofs.girth_line.Tie as tie
 
 float-to-bits-bits : tie.Need-float-to-bits-bits
-float-to-bits-bits c = let s = c .before .before .before .before .before .before .before .args in let l = c .before .before .before .l .given in let r = c .before .before .before .before .before .line in number (l .0 .0 .sum) (finite-line (l .0 .0) (s .table .now) (s .g) (s .key) (ap lineAnswer (sym (l .1)) ∙ r .ensures))
+float-to-bits-bits c = let s = c .before .before .before .before .before .before .before .args in let l = c .before .before .before .l .given in let r = c .before .before .before .before .before .line in not-nan (l .0 .0 .sum) (finite-line (l .0 .0) (s .table .now) (s .g) (s .key) (ap lineAnswer (sym (l .1)) ∙ r .ensures))
 
 cast-figure : tie.Need-cast-figure
 cast-figure c = let z = c .before .before .before .before .before .l .given .0 .0 .figure in let f : SFits w32 z = search needs in widens z f

@@ -3,7 +3,7 @@ use mir.Syntax.{w64}
 use mir.Val.{SFits}
 use Rattle.finish.specs.Answer.{sumAnswer}
 use Rattle.finish.specs.Steps.{FiniteSum}
-use Rattle.finish.proofs.Fraction.{number}
+use Rattle.finish.proofs.Fraction.{not-nan}
 use Rattle.finish.proofs.Outcomes.{finite-outcome}
 use Rattle.exports.specs.Calls.{returnsZero, writes, doubleBits}
 use Rattle.exports.proofs.Answers.{refusing}
@@ -12,7 +12,7 @@ use Rattle.exports.proofs.girth_sum.Statement.{statement}
 use Rattle.exports.proofs.girth_sum.Tie as tie
 
 float-to-bits-bits : tie.Need-float-to-bits-bits
-float-to-bits-bits c = let s = c .before .before .before .before .before .args in let x = c .before .x .given in let r = c .before .before .before .sum in number (x .0 .0) (subst FiniteSum (x .1) (finite-outcome (r .result) (s .table .now) (s .g) (s .key) (r .ensures)))
+float-to-bits-bits c = let s = c .before .before .before .before .before .args in let x = c .before .x .given in let r = c .before .before .before .sum in not-nan (x .0 .0) (subst FiniteSum (x .1) (finite-outcome (r .result) (s .table .now) (s .g) (s .key) (r .ensures)))
 
 returns : tie.Need-returns
 returns c = let x = c .before .x .given in let o = ap sumAnswer (sym (x .1)) ∙ c .before .before .before .sum .ensures in (ap (returnsZero) o, ap (writes 0 doubleBits) o)

@@ -9,7 +9,7 @@ use Rattle.refusal.specs.Outcome.{accepted, refused}
 use Rattle.level.specs.Double.{exponentField, significand, negative, signed}
 use Rattle.finish.specs.Figure.{millFigure, beyond}
 use Rattle.limbs.specs.Nearest.{nearestBy}
-use Rattle.finish.proofs.Fraction.{number, near-figure, far-figure}
+use Rattle.finish.proofs.Fraction.{not-nan, near-figure, far-figure}
 use Rattle.level.proofs.Double.{significand-lt}
 use borrow.Author.Needs.{needs}
 use Rattle.finish.proofs.figure_of.Statement.{statement}
@@ -19,7 +19,7 @@ holds : (c : tie.Start) → T (fits binary64 (c .args .sum))
 holds c = subst (λ (b : Bool). T b) (sym (c .good .0 .1)) tt
 
 float-to-bits-bits : tie.Need-float-to-bits-bits
-float-to-bits-bits c = number (c .args .sum) (c .pre)
+float-to-bits-bits c = not-nan (c .args .sum) (c .pre)
 
 returns : tie.Need-returns
 returns c =

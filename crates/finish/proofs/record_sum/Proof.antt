@@ -12,7 +12,7 @@ use Rattle.limbs.specs.Limbs.{valueOf}
 use Rattle.limbs.specs.Packed.{packed}
 use Rattle.finish.specs.Steps.{sumOfBits}
 use Rattle.finish.proofs.Whole.{kept-size, units-exact, no-sign, no-size}
-use Rattle.finish.proofs.Sums.{answer, answer-zero}
+use Rattle.finish.proofs.Sums.{sum-of-kept, sum-of-zero}
 use borrow.Author.Needs.{needs}
 use Rattle.finish.proofs.record_sum.Statement.{statement}
 use Rattle.finish.proofs.record_sum.Tie as tie
@@ -44,7 +44,7 @@ returns c =
     let k = sized d in
     let e : v ≡ 0 = eqb-true v 0 (sym (c .before .is-zero .ensures) ∙ c .if1 .taken) in
     let n = no-sign v (d .abs-diff .result .negative) _ _ e (d .abs-diff .ensures .1) in
-    answer-zero (value d) (no-size (natAbs (value d)) v _ (k .0) e) (k .1 ∙ n)
+    sum-of-zero (value d) (no-size (natAbs (value d)) v _ (k .0) e) (k .1 ∙ n)
 
 nearest-bits-requires : tie.Need-nearest-bits-requires
 nearest-bits-requires c κs =
@@ -67,7 +67,7 @@ returns-2 c =
     e
     ∙ ap (λ (b : ℕ). sumOfBits b (d .abs-diff .result .negative)) (c .before .nearest-bits .ensures ∙ ap packed (units-exact (natAbs (value d)) (valueOf (d .abs-diff .result .limbs)) _ (k .0)))
     ∙ ap (λ (s : Bool). sumOfBits (packed (natAbs (value d))) s) (sym (k .1))
-    ∙ answer (value d)
+    ∙ sum-of-kept (value d)
 
 pub record-sum-spec : {M : Type 1} → statement M
 record-sum-spec =

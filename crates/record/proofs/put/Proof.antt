@@ -1,12 +1,12 @@
 -- `put` writes field after field; the seven parts stand one behind the other, so they are the record's encoding.
 use Prim.Native.Nat.{_*_}
-use Rattle.record.proofs.Laws.{stored, decode-encode, InRange}
+use Rattle.record.proofs.Laws.{stored, decode-encode, FieldsInRange}
 use native.Mathlib.Omega.{arith}
 use borrow.Author.Needs.{needs}
 use Rattle.record.proofs.put.Statement.{statement}
 use Rattle.record.proofs.put.Tie as tie
 
-in-range : (c : tie.Start) → InRange (c .args .r)
+in-range : (c : tie.Start) → FieldsInRange (c .args .r)
 in-range c = search needs
 
 returns : tie.Need-returns

@@ -4,7 +4,7 @@ use lib.IntN.{ℤ}
 use mir.Syntax.{w32}
 use mir.Val.{SFits}
 use mir.ValLaws.{toZ-ofZ}
-use Rattle.finish.proofs.Fraction.{number}
+use Rattle.finish.proofs.Fraction.{not-nan}
 use Rattle.numerals.specs.Numerals.{decimal, integer}
 use Rattle.numerals.specs.Steps.{Continued}
 use Rattle.numerals.proofs.Texts.{then-ended}
@@ -36,7 +36,7 @@ module _ (c : tie.After-print-integer-field) where
   figure-fits = omega (arith, c .before .struct-told .given)
 
 float-to-bits-print-bits-field : tie.Need-float-to-bits-print-bits-field
-float-to-bits-print-bits-field c = let s = c .before .before .before .before .before .before .before in number (s .args .line .sum) (s .pre .1)
+float-to-bits-print-bits-field c = let s = c .before .before .before .before .before .before .before in not-nan (s .args .line .sum) (s .pre .1)
 
 returns : tie.Need-returns
 unfolding lastFields figureField

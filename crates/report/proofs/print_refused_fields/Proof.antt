@@ -4,7 +4,7 @@ use Prim.Native.Nat.{_+_}
 use mathlib.Core.Path.{subst}
 use mathlib.Core.List.{_++_}
 use Rattle.finish.specs.Steps.{FiniteSum}
-use Rattle.finish.proofs.Fraction.{number}
+use Rattle.finish.proofs.Fraction.{not-nan}
 use Rattle.numerals.specs.Numerals.{digit, decimalIn, decimal}
 use Rattle.numerals.specs.Steps.{Continued}
 use Rattle.numerals.proofs.Texts.{then-ended, longer}
@@ -27,7 +27,7 @@ module _ (c : tie.After-print-refusal) where
 float-to-bits-print-bits-field : tie.Need-float-to-bits-print-bits-field
 float-to-bits-print-bits-field c =
     let x = c .before .before .sum .given in
-    number (x .0 .0) (subst FiniteSum (x .1) (c .before .before .before .before .before .pre .1))
+    not-nan (x .0 .0) (subst FiniteSum (x .1) (c .before .before .before .before .before .pre .1))
 
 returns : tie.Need-returns
 unfolding lastFields figureField

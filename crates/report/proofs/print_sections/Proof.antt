@@ -16,7 +16,7 @@ use Rattle.record.proofs.Found.{sound-record-at}
 use Rattle.table.proofs.State.{length-sections}
 use Rattle.report.specs.Text.{lineText}
 use Rattle.numerals.specs.Steps.{Continued}
-use Rattle.numerals.proofs.Texts.{then, longer, nothing}
+use Rattle.numerals.proofs.Texts.{then, longer, nothing-printed}
 use Rattle.report.specs.Steps.{longestLine}
 use Rattle.report.proofs.Lines.{inside, more-lines}
 use Rattle.report.proofs.print_sections.Statement.{statement}
@@ -42,7 +42,7 @@ done s₀ at t g s end i inv e =
 
 loop-holds : tie.Need-loop-holds Inv-loop μ-loop
 unfolding image
-loop-holds c = (omega arith, refl, nothing (c .before .before .args .text .now) (c .before .before .args .at))
+loop-holds c = (omega arith, refl, nothing-printed (c .before .before .args .text .now) (c .before .before .args .at))
 
 get-requires : tie.Need-get-requires Inv-loop μ-loop
 get-requires c κs = let s = c .before .before .before .before .before in omega (arith, inside (s .args .table .now) (s .args .g) (c .before .before .loop .i) (s .pre .1) (omega arith))
