@@ -31,12 +31,6 @@ plus-requires c κs =
     let s = c .before .before .before .before .before .before in
     rw (back (s .args .a .carry) (omega arith), back (s .args .b .carry) (omega arith)) (omega arith)
 
-plus-requires-2 : tie.Need-plus-requires-2
-plus-requires-2 c κs =
-    let s = c .before .before .before .before .before .before .before in
-    room (s .args .a .carry) (s .args .b .carry) (c .plus .result) (c .before .before .before .before .with-sign .result) ((s .args .a .residue + s .args .b .residue) / 2 ^ 50)
-    (s .pre .2) (s .pre .3) (c .plus .ensures) (c .before .before .before .before .with-sign .ensures) (omega arith)
-
 returns : tie.Need-returns
 returns c =
     let s = c .before .before .before .before .before .before .before .before in
@@ -48,6 +42,12 @@ returns c =
     ∙ second (s .args .a .carry) (s .args .b .carry) (p .result) (o .result) ((s .args .a .residue + s .args .b .residue) / 2 ^ 50)
     (s .pre .2) (s .pre .3) (p .ensures) (o .ensures) (omega arith) in
     (λ i. record { residue = residue i; carry = carry i }) ∙ sym (split-sum (s .args .a) (s .args .b))
+
+plus-requires-2 : tie.Need-plus-requires-2
+plus-requires-2 c κs =
+    let s = c .before .before .before .before .before .before .before in
+    room (s .args .a .carry) (s .args .b .carry) (c .plus .result) (c .before .before .before .before .with-sign .result) ((s .args .a .residue + s .args .b .residue) / 2 ^ 50)
+    (s .pre .2) (s .pre .3) (c .plus .ensures) (c .before .before .before .before .with-sign .ensures) (omega arith)
 
 pub add-totals-spec : {M : Type 1} → statement M
 add-totals-spec =

@@ -1,6 +1,7 @@
 use mathlib.Core.Path.{sym, ap, _∙_}
 use Prim.Native.Nat.{ℕ, _+_}
-use native.Mathlib.Nat.{lt-of-lt-of-le, le-trans, le-of-eq}
+use native.Mathlib.Nat.{le-trans, le-of-eq}
+use native.Mathlib.Omega.{arith}
 use native.Mathlib.Numerals.{add-one}
 use Rattle.limbs.proofs.Nearest.{round-next, round-stay}
 use borrow.Author.Needs.{needs}
@@ -11,7 +12,7 @@ returns : tie.Need-returns
 returns c =
     let a = c .before .before .args in
     let e = ap (λ (x : ℕ). a .rest + x) (c .before .one-if .ensures .0) in
-    add-one (a .q) ∙ round-next (a .up) (a .q) (a .rest) (a .half) (lt-of-lt-of-le (c .if1 .taken) (le-of-eq e))
+    add-one (a .q) ∙ round-next (a .up) (a .q) (a .rest) (a .half) (omega arith)
 
 returns-2 : tie.Need-returns-2
 returns-2 c =

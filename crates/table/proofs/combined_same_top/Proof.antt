@@ -4,7 +4,8 @@ use mathlib.Core.Path.{_≡_, sym, ap, _∙_}
 use native.Mathlib.Omega.{arith}
 use borrow.Author.Needs.{needs}
 use Rattle.level.specs.Level.{below}
-use Rattle.level.specs.Carry.{splitOf}
+use lib.IntN.{_+ℤ_}
+use Rattle.level.specs.Carry.{splitOf, totalOf}
 use Rattle.record.specs.Section.{meaning}
 use Rattle.record.proofs.Parts.{SoundParts, sound-record-parts, total-range}
 use Rattle.table.specs.Combine.{combine, bothAt}
@@ -49,7 +50,8 @@ returns c =
     let t : a .top ≡ max (a .top) (b .top) = omega arith in
     let h = c .before .before .add-totals .ensures ∙ ap splitOf (sym (same-top-high a b e (parts s .0) (parts s .1)) ∙ ap (λ (n : ℕ). below (bothAt (meaning a) (meaning b)) n 0) t) in
     let m = c .before .add-totals2 .ensures ∙ ap splitOf (sym (same-top-middle a b e (parts s .0) (parts s .1)) ∙ ap (λ (n : ℕ). below (bothAt (meaning a) (meaning b)) n 1) t) in
-    let l = c .add-totals3 .ensures ∙ ap splitOf (sym (same-top-low a b e (parts s .0) (parts s .1)) ∙ ap (λ (n : ℕ). below (bothAt (meaning a) (meaning b)) n 2) t) in
+    let low : c .add-totals3 .result ≡ splitOf (totalOf (a .low) +ℤ totalOf (b .low)) = c .add-totals3 .ensures in
+    let l = low ∙ ap splitOf (sym (same-top-low a b e (parts s .0) (parts s .1)) ∙ ap (λ (n : ℕ). below (bothAt (meaning a) (meaning b)) n 2) t) in
     λ i. record { key = a .key; count = a .count + b .count; top = t i; reserved = 0; high = h i; middle = m i; low = l i }
 
 pub combined-same-top-spec : {M : Type 1} → statement M
