@@ -24,7 +24,7 @@ ONE = {
     "figure": "a section's mill figure: the call, its question, its field in a line",
     "line": "a section's finished line: the call and its question",
     "answer": "what a call answers",
-    "content": "the bytes that the call leaves its caller",
+    "content": "the bytes that the caller has afterwards, of a part returned or of a buffer lent",
     "work": "what the work buffer holds after the call",
     "key_start": "where a file's key column starts",
     "value_start": "where a file's value column starts",
@@ -49,7 +49,7 @@ ONE = {
     "same": "the limbs stand for this number",
     "near": "nothing is nearer",
     "rounded_up": "the digits cut off were rounded up",
-    "computed": "what the definitions give for the examples",
+    "computed": "that the definitions give what the examples expect",
     "expected": "what an example has to give",
     "exampleRows": "the rows of an example",
 }

@@ -20,7 +20,7 @@ PutAt s at r s′ = (s′ ≡ sets s at (encode r)) × (decode (encode r) ≡ r)
 -- the bytes s hold a sound table of g records, the sections ts, at most `room` of them
 pub record Holds (ts : List Section) (room : ℕ) (s : List ℕ) (g : ℕ) : Type 0 where
   pub held : sections s g ≡ ts
-  pub groups-are : g ≡ length ts
+  pub group-count : g ≡ length ts
   pub bounded : g ≤ room
   pub good : T (sound s g)
 

@@ -11,7 +11,7 @@ ghost use Rattle.record.specs.Keys.{recordKeys, rising, place};
 ghost use Rattle.record.specs.Sound.{sound, soundRecord};
 ghost use Rattle.record.specs.Section.{sections, meaning, recordOf};
 ghost use Rattle.table.specs.Combine.{ofRow, combine, absorb};
-ghost use Rattle.table.specs.Calls.{overflows};
+ghost use Rattle.table.specs.Calls.{mostRows, overflows};
 ghost use Rattle.absorb.specs.Steps.{PutAt, Absorbs};
 use columns::Kind;
 use record::Place;
@@ -43,7 +43,7 @@ fn combine_at(t: &mut [u8], i: usize, r: Record)
     requires { ⌜ i * 64 + 64 ≤ length (now t) ⌝ }
     requires { ⌜ T (soundRecord (recordAt (now t) (i * 64))) ⌝ }
     requires { ⌜ T (soundRecord r) ⌝ }
-    requires { ⌜ recordAt (now t) (i * 64) .count + r .count < 2 ^ 32 ⌝ }
+    requires { ⌜ recordAt (now t) (i * 64) .count + r .count ≤ mostRows ⌝ }
     ensures { λ _. ⌜ PutAt (now (t .entry)) (i * 64) (recordOf (combine (meaning (recordAt (now (t .entry)) (i * 64))) (meaning r))) (now (t .exit)) ⌝ }
 {
     let old = record::get(t, i);

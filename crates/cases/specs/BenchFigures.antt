@@ -62,8 +62,8 @@ of o bs (mill a) = mill (figureOf o)
 of o bs (leftToRight a) = leftToRight (toBits binary64 (addedUp (ofBits binary64 0) bs))
 
 -- the figure that the definitions give for a case's rows
-abbrev pub computed : Case → BenchFigure
-computed c = of (section (c .rowBits)) (c .rowBits) (c .benchFigure)
+abbrev pub computedFigure : Case → BenchFigure
+computedFigure c = of (section (c .rowBits)) (c .rowBits) (c .benchFigure)
 
 -- ---- the figures
 

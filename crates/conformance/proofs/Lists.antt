@@ -1,9 +1,12 @@
--- Calls that step one after the other, from empty tables, are a way of working of demand 3.
-use mathlib.Core.Path.{_≡_, refl, ap, ap₂, _∙_}
+-- Calls that step one after the other have the answers and the tables of which demand 3 speaks.
+use Prim.Native.Nat.{ℕ}
+use mathlib.Core.Path.{_≡_, refl, sym, ap, ap₂, _∙_}
 use mathlib.Core.List.{List, [], _∷_}
 use Rattle.history.specs.Calls.{Call}
-use Rattle.history.specs.Run.{State, Answer, noGroups, stateAfter, answers}
-use Rattle.conformance.specs.Worked.{Worked, done, next, WorkedIs}
+use Rattle.history.specs.Run.{Store, State, Answer, stateAfter, answers, askTable}
+use Rattle.history.specs.Demand3.{History, empty, table, used}
+use Rattle.history.proofs.Demand.{demand3}
+use Rattle.conformance.specs.Worked.{Worked, done, next, CarriedOut, WorkedIs}
 
 worked : (s : State) (cs : List Call) (xs : List Answer) (s′ : State) → Worked s cs xs s′ → (answers s cs ≡ xs) × (stateAfter s cs ≡ s′)
 unfolding answers stateAfter
@@ -14,10 +17,17 @@ worked s (c ∷ cs) (x ∷ xs) s″ (next {s′ = s′} p w) =
       ap (λ (t : State). stateAfter t cs) (p .1) ∙ r .1,
     )
 
+tables : (h : History) (xs : List Answer) (s : State) → CarriedOut h xs s → (i : ℕ) → s .tables i ≡ table h i
+tables h xs s w i = ap (λ (t : State). t .tables i) (sym (worked (empty h) (h .calls) xs s w .1))
+
 pub worked-is : WorkedIs
 worked-is = record {
   as-listed = worked;
-  as-history = λ initial cs xs s′ b w.
-      let r = worked (noGroups initial) cs xs s′ w in
-      (record { initial = initial; calls = cs; in-bytes = b }, refl, refl, r .0, λ i. ap (λ (t : State). t .tables i) (r .1));
+  answers-are = λ h xs s w. sym (worked (empty h) (h .calls) xs s w .0) ∙ demand3 .answered h;
+  tables-are = tables;
+  same-tables = λ h h′ xs xs′ s s′ w w′ i j e. (
+    ap (λ (t : Store). t .groups) (tables h xs s w i) ∙ demand3 .same-groups h h′ i j e ∙ sym (ap (λ (t : Store). t .groups) (tables h′ xs′ s′ w′ j)),
+    ap used (tables h xs s w i) ∙ demand3 .same-bytes h h′ i j e ∙ sym (ap used (tables h′ xs′ s′ w′ j)),
+    λ q. ap (λ (t : Store). askTable t q) (tables h xs s w i) ∙ demand3 .same-answer h h′ i j q e ∙ sym (ap (λ (t : Store). askTable t q) (tables h′ xs′ s′ w′ j)),
+  );
 }

@@ -15,7 +15,7 @@ use borrow.Author.Tests.{ltb-false}
 use Rattle.refusal.specs.Outcome.{Outcome, accepted, refused, Ground, outcome, condition}
 use Rattle.refusal.proofs.Outcomes.{accepted-not, accepted-value}
 use Rattle.columns.specs.declared.Kind.the-variants.{Double}
-use Rattle.record.specs.Layout.{capacity}
+use Rattle.record.specs.Layout.{mostGroups, capacity}
 use Rattle.table.specs.Calls.{addSections, columnGrounds, addGrounds, addOutcome, mergeSections, mergeGrounds, mergeOutcome}
 use Rattle.exports.specs.Calls.{returned}
 
@@ -32,16 +32,16 @@ widened z fits = ap (λ (y : ℤ). toZ w64 (ofZ w64 y)) (toZ-ofZ w32 z fits) ∙
 
 -- an accepted call gives no more groups than a table can have, if it refuses with 12 those that have no room
 module _ (gs : List Ground) (len m : ℕ) (room : condition 12 gs ≡ ltb (capacity len) m) where
-  groups-le : {n : ℕ} → outcome gs m ≡ accepted n → n ≤ 1024
+  groups-le : {n : ℕ} → outcome gs m ≡ accepted n → n ≤ mostGroups
   groups-le {n} e =
       let h = ltb-false (capacity len) m (sym room ∙ accepted-not 12 gs m e) in
       let q : m ≡ n = accepted-value gs m e in
-      omega (arith, min-le-right (len / 64) 1024)
+      omega (arith, min-le-right (len / 64) mostGroups)
 
-pub add-groups : (s : List ℕ) (g : ℕ) (ks vs : List ℕ) (work : ℕ) {n : ℕ} → addOutcome Double s g ks vs work ≡ accepted n → n ≤ 1024
+pub add-groups : (s : List ℕ) (g : ℕ) (ks vs : List ℕ) (work : ℕ) {n : ℕ} → addOutcome Double s g ks vs work ≡ accepted n → n ≤ mostGroups
 unfolding addGrounds columnGrounds
 add-groups s g ks vs work = groups-le (addGrounds Double s g ks vs work) (length s) (length (addSections Double s g ks vs)) refl
 
-pub merge-groups : (s : List ℕ) (g : ℕ) (s′ : List ℕ) (g′ : ℕ) {n : ℕ} → mergeOutcome s g s′ g′ ≡ accepted n → n ≤ 1024
+pub merge-groups : (s : List ℕ) (g : ℕ) (s′ : List ℕ) (g′ : ℕ) {n : ℕ} → mergeOutcome s g s′ g′ ≡ accepted n → n ≤ mostGroups
 unfolding mergeGrounds
 merge-groups s g s′ g′ = groups-le (mergeGrounds s g s′ g′) (length s) (length (mergeSections s g s′ g′)) refl

@@ -12,6 +12,7 @@ ghost use Rattle.refusal.specs.Number.{numberOf};
 ghost use Rattle.refusal.specs.Outcome.{accepted};
 ghost use Rattle.columns.specs.declared.Kind.the-variants.{Double};
 ghost use Rattle.patch.specs.File.{readOutcome, keyStart, valueStart};
+ghost use Rattle.record.specs.Layout.{mostGroups};
 ghost use Rattle.table.specs.Calls.{addOutcome, addLeaves, cleared, mergeOutcome, mergeLeaves};
 ghost use Rattle.table.specs.Answer.{tableAnswer};
 ghost use Rattle.finish.specs.Finish.{sumOutcome, figureOutcome, lineOutcome};
@@ -52,7 +53,7 @@ pub extern "C" fn girth_read(file: &[u8], keys_at: &mut u64, values_at: &mut u64
 
 // The new group count of an add or a merge, or minus the refusal's number.
 fn groups_or_minus(a: TableAnswer) -> i64
-    requires { ⌜ ((g : ℕ) → tableAnswer a ≡ accepted g → g ≤ 1024) ⌝ }
+    requires { ⌜ ((g : ℕ) → tableAnswer a ≡ accepted g → g ≤ mostGroups) ⌝ }
     ensures { λ r. ⌜ r ≡ returnsCount (tableAnswer a) ⌝ }
 {
     match a {

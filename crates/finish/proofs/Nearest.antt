@@ -18,6 +18,7 @@ use lib.Ieee.Fits.{down-pos, round-fits}
 use lib.Ieee.Exact.{HasValue}
 use lib.Ieee.Scale as Scale
 use Rattle.integers.proofs.Diff.{ints}
+use Rattle.level.proofs.Descent.{signed-zero}
 use Rattle.level.specs.Double.{exponentField, fraction, significand, magnitude, negative, finiteBits, signed, value}
 use Rattle.level.specs.Cut.{absDiff}
 use Rattle.level.proofs.Signs.{sub-signed, natAbs-signed}
@@ -132,11 +133,7 @@ module _ (s : Bool) (n : ℕ) where
 
   -- a value of the other sign is as near only if it is 0, which has both signs
   nothing : (t : Bool) → signed t 0 ≡ signed s 0
-  nothing t = zeros t ∙ sym (zeros s)
-    where
-      zeros : (t : Bool) → signed t 0 ≡ pos 0
-      zeros true = refl
-      zeros false = refl
+  nothing t = signed-zero t ∙ sym (signed-zero s)
 
   even-signed : (t : Bool) (m j : ℕ) → m < 2 ^ 53 → (signed t (m * 2 ^ j) ≡ signed s size-of → ⊥) → natAbs (signed s n -ℤ signed s size-of) ≡ natAbs (signed s n -ℤ signed t (m * 2 ^ j)) → significandOf n % 2 ≡ 0
   even-signed t m j h d e =

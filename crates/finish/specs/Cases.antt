@@ -1,4 +1,4 @@
--- Sums, mill figuresOfRows and lines beside the bench book's, from the definitions: the rows of a section, and what finishing gives. One list each, one claim.
+-- Sums, mill figures and lines beside the bench book's, from the definitions: the rows of a section, and what finishing gives. One list each, one claim.
 use Prim.Native.Nat.{ℕ, _-_, _*_, _^_}
 use mathlib.Core.Path.{_≡_, refl}
 use mathlib.Core.Bool.{true, false}
@@ -49,7 +49,7 @@ rowSets =
     ∷ (0xFFEFFFFFFFFFFFFF ∷ 0xFC90000000000000 ∷ []) ∷ (0xFFEFFFFFFFFFFFFF ∷ 0xFC8FFFFFFFFFFE00 ∷ [])
     ∷ []
 
--- their sumsOfRows
+-- their sums
 sumsOfRows : List (Outcome Float)
 sumsOfRows =
     sumWithBits 3 ∷ sumWithBits 0x0010000000000000 ∷ sumWithBits 0x8000000000000003
@@ -79,7 +79,7 @@ natural n = accepted (pos n)
 negated : ℕ → Outcome ℤ
 negated n = accepted (negℤ (pos n))
 
--- their figuresOfRows
+-- their figures
 figuresOfRows : List (Outcome ℤ)
 figuresOfRows =
     natural 38 ∷ negated 37 ∷ natural 150

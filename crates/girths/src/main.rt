@@ -3,6 +3,7 @@ use libc::STDERR_FILENO;
 use libc::STDIN_FILENO;
 use libc::STDOUT_FILENO;
 use report::Printed;
+use report::TEXT_SIZE;
 ghost use Prim.Native.Nat.{_-_, _≤_};
 ghost use mathlib.Core.Path.{_≡_};
 ghost use lib.ListN.{length, take};
@@ -45,7 +46,7 @@ fn read_all(buffer: &mut [u8]) -> Received
 }
 
 fn print_report(file: &[u8]) {
-    let mut text = [0u8; 4096];
+    let mut text = [0u8; TEXT_SIZE];
     match report::report(file, &mut text) {
         Printed::Length(n) => {
             if !io::write_all(STDOUT_FILENO, &text[..n]) {

@@ -12,7 +12,7 @@ use lib.Pow.{pow-add}
 use lib.IntN.{ℤ, pos, _-ℤ_, _*ℤ_, natAbs, +ℤ-idl}
 use Rattle.integers.proofs.Diff.{ints, byParts₂}
 use Rattle.level.specs.Double.{magnitude}
-use Rattle.level.specs.Level.{unit, top, levelSum, topOf, total, exactSum}
+use Rattle.level.specs.Level.{levelBound, unit, top, levelSum, topOf, total, exactSum}
 use Rattle.level.proofs.Top.{top-least}
 use Rattle.level.proofs.Section.{section-near, section-whole}
 use Rattle.record.specs.Section.{kept}
@@ -39,13 +39,13 @@ module _ (k t : ℕ) (bs : List ℕ) where
 
 -- ---- held at the largest top
 -- from 1 on, the largest row has 2^39 units of the level below
-top-large : (bs : List ℕ) → 1 ≤ topOf bs → 2 ^ 39 * unit (topOf bs - 1) ≤ largest bs
+top-large : (bs : List ℕ) → 1 ≤ topOf bs → levelBound * unit (topOf bs - 1) ≤ largest bs
 unfolding topOf largest
 top-large [] h = absurd (omega arith)
 top-large (b ∷ bs) h = go (top-large bs) (decLe (topOf bs) (top b))
   where
-    go : (1 ≤ topOf bs → 2 ^ 39 * unit (topOf bs - 1) ≤ largest bs) → Dec (topOf bs ≤ top b)
-        → 2 ^ 39 * unit (max (top b) (topOf bs) - 1) ≤ max (magnitude b) (largest bs)
+    go : (1 ≤ topOf bs → levelBound * unit (topOf bs - 1) ≤ largest bs) → Dec (topOf bs ≤ top b)
+        → levelBound * unit (max (top b) (topOf bs) - 1) ≤ max (magnitude b) (largest bs)
     go ih (yes l) =
         let m : max (top b) (topOf bs) ≡ top b = omega arith in
         rw m (le-trans (top-least b .earlier (top b - 1) (omega arith) (omega arith)) (le-max-left (magnitude b) (largest bs)))
@@ -59,7 +59,7 @@ unit-step t h =
     rw e (pow-add 2 40 (40 * (t - 2)))
 
 -- n rows, what they lose R, the unit U of the lowest kept level, the largest row L
-bound : (n R U L : ℕ) → R * 2 ≤ n * U → 2 ^ 39 * (2 ^ 40 * U) ≤ L → R * 2 ^ 80 ≤ n * L
+bound : (n R U L : ℕ) → R * 2 ≤ n * U → levelBound * (2 ^ 40 * U) ≤ L → R * 2 ^ 80 ≤ n * L
 bound n R U L h k = omega (arith, mul-le-mul-left n k)
 
 alike : (x y : ℤ) → x ≡ y → natAbs (x -ℤ y) ≡ 0

@@ -89,8 +89,8 @@ numbers : answers emptyTables (refusedAdd ∷ addTo 0 (7 ∷ 3 ∷ []) (1 ∷ 2 
 unfolding leftInTable0
 numbers = refl
 
--- B10 in a table: 2^60, 1 and -2^60 sum to 1; mill figure 100; section 8 is absent
-finished : answers emptyTables (addTo 0 (7 ∷ 7 ∷ 7 ∷ []) (0x43B0000000000000 ∷ 0x3FF0000000000000 ∷ 0xC3B0000000000000 ∷ []) ∷ ask 0 (sum 7) ∷ ask 0 (figure 7) ∷ ask 0 (line 8) ∷ [])
-    ≡ groupsAre (accepted 1) ∷ sumIs (accepted (ofBits binary64 0x3FF0000000000000)) ∷ figureIs (accepted (pos 100)) ∷ lineIs (refused 13) ∷ []
+-- 2^60, 3 and -2^60 sum to 3; mill figure 300; section 8 is absent
+finished : answers emptyTables (addTo 0 (7 ∷ 7 ∷ 7 ∷ []) (0x43B0000000000000 ∷ 0x4008000000000000 ∷ 0xC3B0000000000000 ∷ []) ∷ ask 0 (sum 7) ∷ ask 0 (figure 7) ∷ ask 0 (line 8) ∷ [])
+    ≡ groupsAre (accepted 1) ∷ sumIs (accepted (ofBits binary64 0x4008000000000000)) ∷ figureIs (accepted (pos 300)) ∷ lineIs (refused 13) ∷ []
 unfolding leftInTable0 find kept tooLarge nearestDouble millFigure beyond ofBits round
 finished = refl

@@ -105,7 +105,7 @@ unfoldable pub scaled : ℕ → Bool → ℕ → ℕ → ℤ
 scaled v g x zero = signed g (closest x v)
 scaled v g x (suc k) = scaled v (flippedIf g (roundedUp x v)) (restOf x v * 2 ^ 40) k
 
-signed-zero : (g : Bool) → signed g 0 ≡ pos 0
+pub signed-zero : (g : Bool) → signed g 0 ≡ pos 0
 signed-zero true = refl
 signed-zero false = refl
 

@@ -11,7 +11,7 @@ use lib.Arith.{le-zero}
 use lib.Pow.{pow-pos, pow-mono, pow-add}
 use lib.Ieee.Nearest.{closest}
 use borrow.Author.Tests.{eqb-true, eqb-false}
-use Rattle.level.specs.Level.{unit, nearestTo, left, given}
+use Rattle.level.specs.Level.{levelBound, unit, nearestTo, left, given}
 use Rattle.level.specs.Cut.{absDiff, restOf, roundedUp}
 use Rattle.level.proofs.Near.{closest-near, closest-le, closest-small}
 use Rattle.integers.proofs.Laws.{natAbs-neg, negℤ-*ℤ}
@@ -103,10 +103,10 @@ given-start (suc s) t z j h l =
     ]
 
 -- no contribution exceeds 2^39 in size
-pub given-bound : (k : ℕ) (z : ℤ) (j : ℕ) → natAbs z * 2 ≤ unit k → natAbs (given k z j) ≤ 2 ^ 39
+pub given-bound : (k : ℕ) (z : ℤ) (j : ℕ) → natAbs z * 2 ≤ unit k → natAbs (given k z j) ≤ levelBound
 unfolding given
 given-bound zero z j h = zero-le
 given-bound (suc s) z j h =
-    given-step (λ (g : ℤ). natAbs g ≤ 2 ^ 39) s z j
-    (λ _. nearest-le z (unit s) (2 ^ 39) (unit-pos s) (omega (arith, unit-suc s)))
+    given-step (λ (g : ℤ). natAbs g ≤ levelBound) s z j
+    (λ _. nearest-le z (unit s) (levelBound) (unit-pos s) (omega (arith, unit-suc s)))
     (λ _. given-bound s (left z s) j (left-half z s))

@@ -2,15 +2,16 @@
 use mathlib.Core.Path.{_≡_, refl, sym, ap, ap₂, _∙_}
 use mathlib.Core.Bool.{Bool, true, false, cond}
 use mathlib.Core.List.{List, [], _∷_, _++_}
-use Prim.Native.Nat.{ℕ, zero, suc, _-_, _*_, _^_, _≤_, _<_, max, zero-le}
+use Prim.Native.Nat.{ℕ, zero, suc, _-_, _*_, _≤_, _<_, max, zero-le}
 use native.Mathlib.Nat.{le-trans, le-max-left, le-max-right}
 use native.Mathlib.Omega.{arith}
 use lib.Dec.{leb}
 use lib.ListN.{length}
 use lib.IntN.{ℤ, pos, negℤ, natAbs, _+ℤ_, _-ℤ_, _*ℤ_, +ℤ-idl, +ℤ-assoc, +ℤ-comm, zero-*ℤ, negℤ-+ℤ, +ℤ-negℤ-cancel}
 use Rattle.level.specs.Double.{value}
-use Rattle.level.specs.Level.{unit, top, contribution, below, levelSum, topOf, total, exactSum}
-use Rattle.integers.proofs.Laws.{+ℤ-*ℤ, +ℤ-interchange, natAbs-+ℤ}
+use Rattle.level.specs.Level.{levelBound, unit, top, contribution, below, levelSum, topOf, total, exactSum}
+use Rattle.integers.proofs.Laws.{+ℤ-*ℤ, natAbs-+ℤ}
+use Rattle.integers.proofs.Diff.{+ℤ-interchange}
 use Rattle.level.proofs.Top.{contribution-above, contribution-bound}
 use Rattle.level.proofs.Kept.{leftAfter, after-half, after-none, levelSum-row, levelSum-all}
 
@@ -32,7 +33,7 @@ total-above [] j h = refl
 total-above (b ∷ bs) j h = rw (contribution-above b j (omega arith), total-above bs j (omega arith))
 
 -- no total exceeds 2^39 for each row
-pub total-bound : (bs : List ℕ) (j : ℕ) → natAbs (total bs j) ≤ length bs * 2 ^ 39
+pub total-bound : (bs : List ℕ) (j : ℕ) → natAbs (total bs j) ≤ length bs * levelBound
 unfolding total
 total-bound [] j = zero-le
 total-bound (b ∷ bs) j = omega (arith, natAbs-+ℤ (contribution b j) (total bs j), contribution-bound b j, total-bound bs j)

@@ -12,33 +12,33 @@ use lib.Arith.{lt-one}
 use lib.Pow.{pow-mono, pow-add, shl-lt}
 use borrow.Author.Tests.{ltb-true, ltb-false}
 use Rattle.level.specs.Double.{exponentField, fraction, significand, magnitude, value}
-use Rattle.level.specs.Level.{unit, topFrom, top, given, contribution}
+use Rattle.level.specs.Level.{levelBound, unit, topFrom, top, given, contribution}
 use Rattle.level.proofs.Double.{significand-lt, significand-normal, size-subnormal}
 use Rattle.level.proofs.Signs.{natAbs-signed}
 use Rattle.level.proofs.Given.{unit-suc, given-start, given-above, given-bound}
 
 -- n is below 2^39 units of level t, and of no earlier level from j on
 pub record Least (j n t : ℕ) : Type 0 where
-  pub under : n < 2 ^ 39 * unit t
-  pub earlier : (i : ℕ) → j ≤ i → i < t → 2 ^ 39 * unit i ≤ n
+  pub under : n < levelBound * unit t
+  pub earlier : (i : ℕ) → j ≤ i → i < t → levelBound * unit i ≤ n
 
-topFrom-least : (k j n : ℕ) → n < 2 ^ 39 * unit (j + k) → Least j n (topFrom k j n) × (topFrom k j n ≤ j + k)
+topFrom-least : (k j n : ℕ) → n < levelBound * unit (j + k) → Least j n (topFrom k j n) × (topFrom k j n ≤ j + k)
 unfolding topFrom
 topFrom-least zero j n h = (record { under = rw add-zero at h; earlier = λ i a b. absurd (omega arith) }, omega arith)
-topFrom-least (suc k) j n h = go (ltb n (2 ^ 39 * unit j)) refl (topFrom-least k (suc j) n (rw suc-add (rw add-suc at h)))
+topFrom-least (suc k) j n h = go (ltb n (levelBound * unit j)) refl (topFrom-least k (suc j) n (rw suc-add (rw add-suc at h)))
   where
-    go : (b : Bool) → ltb n (2 ^ 39 * unit j) ≡ b → Least (suc j) n (topFrom k (suc j) n) × (topFrom k (suc j) n ≤ suc j + k) → Least j n (cond b j (topFrom k (suc j) n)) × (cond b j (topFrom k (suc j) n) ≤ j + suc k)
+    go : (b : Bool) → ltb n (levelBound * unit j) ≡ b → Least (suc j) n (topFrom k (suc j) n) × (topFrom k (suc j) n ≤ suc j + k) → Least j n (cond b j (topFrom k (suc j) n)) × (cond b j (topFrom k (suc j) n) ≤ j + suc k)
     go true e r = (record { under = ltb-true _ _ e; earlier = λ i a b. absurd (omega arith) }, omega arith)
     go false e r = (record { under = r .0 .under; earlier = earlier }, omega arith)
       where
-        earlier : (i : ℕ) → j ≤ i → i < topFrom k (suc j) n → 2 ^ 39 * unit i ≤ n
+        earlier : (i : ℕ) → j ≤ i → i < topFrom k (suc j) n → levelBound * unit i ≤ n
         earlier i a l =
             elim (eq-or-lt-of-le a) [
-              | inl q ↦ subst (λ (x : ℕ). 2 ^ 39 * unit x ≤ n) q (ltb-false _ _ e)
+              | inl q ↦ subst (λ (x : ℕ). levelBound * unit x ≤ n) q (ltb-false _ _ e)
               | inr m ↦ r .0 .earlier i m l
             ]
 
-size-lt : (b : ℕ) → magnitude b < 2 ^ 39 * unit 52
+size-lt : (b : ℕ) → magnitude b < levelBound * unit 52
 size-lt b = lt-of-lt-of-le (shl-lt 53 (exponentField b - 1) (significand-lt b)) (le-trans (pow-mono {j = 2099} (omega arith)) (lit≤ tt))
 
 pub top-least : (b : ℕ) → Least 0 (magnitude b) (top b)
@@ -69,12 +69,12 @@ pub contribution-above : (b j : ℕ) → top b < j → contribution b j ≡ pos 
 unfolding contribution
 contribution-above b j h = given-above (suc (top b)) (value b) j h
 
-pub contribution-bound : (b j : ℕ) → natAbs (contribution b j) ≤ 2 ^ 39
+pub contribution-bound : (b j : ℕ) → natAbs (contribution b j) ≤ levelBound
 unfolding contribution
 contribution-bound b j = given-bound (suc (top b)) (value b) j (row-half b)
 
 -- ---- the top by the exponent field
-units-pow : (j : ℕ) → 2 ^ 39 * unit j ≡ 2 ^ (39 + 40 * j)
+units-pow : (j : ℕ) → levelBound * unit j ≡ 2 ^ (39 + 40 * j)
 units-pow j = sym (pow-add 2 39 (40 * j))
 
 pub top-normal : (b : ℕ) → (exponentField b ≡ 0 → ⊥) → top b ≡ (exponentField b + 52) / 40
@@ -83,20 +83,20 @@ top-normal b n = least-unique (magnitude b) (top b) t (top-least b) (record { un
     t : ℕ
     t = (exponentField b + 52) / 40
 
-    under : magnitude b < 2 ^ 39 * unit t
+    under : magnitude b < levelBound * unit t
     under = rw units-pow (lt-of-lt-of-le (shl-lt 53 (exponentField b - 1) (significand-lt b)) (pow-mono (omega arith)))
 
-    earlier : (i : ℕ) → 0 ≤ i → i < t → 2 ^ 39 * unit i ≤ magnitude b
+    earlier : (i : ℕ) → 0 ≤ i → i < t → levelBound * unit i ≤ magnitude b
     earlier i _ l =
         let h : 2 ^ 52 ≤ significand b = rw (significand-normal b n) (omega arith) in
         rw units-pow
         (le-trans (pow-mono {j = 52 + (exponentField b - 1)} (omega arith)) (le-trans (le-of-eq (pow-add 2 52 (exponentField b - 1))) (mul-le-mul-right (2 ^ (exponentField b - 1)) h)))
 
-pub top-small : (b : ℕ) → exponentField b ≡ 0 → fraction b < 2 ^ 39 → top b ≡ 0
+pub top-small : (b : ℕ) → exponentField b ≡ 0 → fraction b < levelBound → top b ≡ 0
 top-small b e h =
     least-unique (magnitude b) (top b) 0 (top-least b) (record { under = rw (size-subnormal b e) h; earlier = λ i _ l. absurd (omega arith) })
 
-pub top-subnormal : (b : ℕ) → exponentField b ≡ 0 → 2 ^ 39 ≤ fraction b → top b ≡ 1
+pub top-subnormal : (b : ℕ) → exponentField b ≡ 0 → levelBound ≤ fraction b → top b ≡ 1
 top-subnormal b e h =
     least-unique (magnitude b) (top b) 1 (top-least b) (record { under = rw (size-subnormal b e) (omega arith); earlier = λ i _ l. rw (size-subnormal b e, lt-one l) h })
 

@@ -6,8 +6,14 @@ ghost use lib.Ieee.Nearest.{closest};
 ghost use Rattle.level.specs.Double.{exponentField, fraction, finiteBits, significand, negative, signed};
 ghost use Rattle.level.specs.Level.{top};
 ghost use Rattle.level.specs.Cut.{shiftOf, restOf, roundedUp, flippedIf};
-ghost use Rattle.level.specs.Carry.{carryOf, residueOf, splitOf, totalOf};
+ghost use Rattle.level.specs.Carry.{carryBase, carryOf, residueOf, splitOf, totalOf};
 ghost use Rattle.level.specs.Contributions.{contributionsOf};
+
+// How many units of its top a row's size stays below, and the largest size of a contribution.
+pub const LEVEL_BOUND: u64 = 1 << 39;
+
+// A total is its carry times this, and its residue.
+pub const CARRY_BASE: u64 = 1 << 50;
 
 // The exponent field of a double's bits.
 pub fn exponent_field(bits: u64) -> u64
@@ -55,7 +61,7 @@ fn top_level(bits: u64) -> u64
     if e != 0 {
         return (e + 52) / 40;
     }
-    if fraction_field(bits) < (1 << 39) {
+    if fraction_field(bits) < LEVEL_BOUND {
         0
     } else {
         1
@@ -248,7 +254,7 @@ pub fn plus(x: i64, y: i64) -> i64
 
 // Two totals added.
 pub fn add_totals(a: SplitTotal, b: SplitTotal) -> SplitTotal
-    requires { ⌜ (a .residue < 2 ^ 50) × (b .residue < 2 ^ 50) × (natAbs (a .carry) < 2 ^ 61) × (natAbs (b .carry) < 2 ^ 61) ⌝ }
+    requires { ⌜ (a .residue < carryBase) × (b .residue < carryBase) × (natAbs (a .carry) < 2 ^ 61) × (natAbs (b .carry) < 2 ^ 61) ⌝ }
     ensures { λ r. ⌜ r ≡ splitOf (totalOf a +ℤ totalOf b) ⌝ }
 {
     let sum = a.residue + b.residue;

@@ -117,16 +117,16 @@ round-units s n =
 
 -- ---- where the result is finite
 
-over-full : (q k : ℕ) → 2046 ≤ k → 2 ^ 52 ≤ q → 2 ^ 2098 ≤ q * 2 ^ k
-over-full q k h l = le-trans (le-of-eq (pow-add 2 52 2046)) (mul-le-mul l (pow-mono h))
+above-limit : (q k : ℕ) → 2046 ≤ k → 2 ^ 52 ≤ q → 2 ^ 2098 ≤ q * 2 ^ k
+above-limit q k h l = le-trans (le-of-eq (pow-add 2 52 2046)) (mul-le-mul l (pow-mono h))
 
-under-full : (q k : ℕ) → k ≤ 2044 → q ≤ 2 ^ 53 → q * 2 ^ k < 2 ^ 2098
-under-full q k h l = lt-of-le-of-lt (mul-le-mul l (pow-mono h)) (lt-of-le-of-lt (le-of-eq (sym (pow-add 2 53 2044))) (pow-lt {i = 2097} {j = 2098} (lit< tt)))
+below-limit : (q k : ℕ) → k ≤ 2044 → q ≤ 2 ^ 53 → q * 2 ^ k < 2 ^ 2098
+below-limit q k h l = lt-of-le-of-lt (mul-le-mul l (pow-mono h)) (lt-of-le-of-lt (le-of-eq (sym (pow-add 2 53 2044))) (pow-lt {i = 2097} {j = 2098} (lit< tt)))
 
 -- in bits and in size alike
 finite-below : (q k : ℕ) → q ≤ 2 ^ 53 → (k ≡ 0) ⊎ (2 ^ 52 ≤ q) → k * 2 ^ 52 + q < infinite → q * 2 ^ k < 2 ^ 2098
-finite-below q k h (inl z) b = under-full q k (omega arith) h
-finite-below q k h (inr l) b = ⊎-elim (λ g. under-full q k g h) (λ g. at g) (le-or-lt k 2044)
+finite-below q k h (inl z) b = below-limit q k (omega arith) h
+finite-below q k h (inr l) b = ⊎-elim (λ g. below-limit q k g h) (λ g. at g) (le-or-lt k 2044)
   where
     at : 2044 < k → q * 2 ^ k < 2 ^ 2098
     at g =
@@ -139,7 +139,7 @@ infinite-above q k h (inl z) b = absurd (no z)
   where
     no : k ≡ 0 → ⊥
     no e = omega arith
-infinite-above q k h (inr l) b = ⊎-elim (λ g. at g) (λ g. over-full q k g l) (le-or-lt k 2045)
+infinite-above q k h (inr l) b = ⊎-elim (λ g. at g) (λ g. above-limit q k g l) (le-or-lt k 2045)
   where
     at : k ≤ 2045 → 2 ^ 2098 ≤ q * 2 ^ k
     at g =

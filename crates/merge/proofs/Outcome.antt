@@ -1,13 +1,14 @@
 -- The outcome of a merge, by the first of its grounds that holds.
 use Prim.Native.Nat.{ℕ, _≤_, _<_}
-use mathlib.Core.Path.{_≡_, ap, _∙_, refl}
-use mathlib.Core.Bool.{Bool, true, false, not, _||_}
-use mathlib.Core.List.{List, [], _∷_}
-use native.Mathlib.Omega.{arith}
-use borrow.Author.Tests.{lt-ltb, le-ltb, ltb-false}
-use lib.Dec.{T, ltb}
+use mathlib.Core.Path.{_≡_, sym, ap, _∙_}
+use mathlib.Core.Bool.{true, false, not}
+use mathlib.Core.List.{List}
+use borrow.Author.Tests.{not-false, lt-ltb, le-ltb, ltb-false}
+use lib.Dec.{T}
 use lib.ListN.{length}
-use Rattle.refusal.specs.Outcome.{Outcome, accepted, refused, ground, outcome}
+use Rattle.refusal.specs.Outcome.{Outcome, accepted, refused, condition}
+use Rattle.refusal.proofs.Outcomes.{accepted-not, accepted-value}
+use Rattle.lists.proofs.Booleans.{both-false}
 use Rattle.record.specs.Layout.{capacity}
 use Rattle.record.specs.Sound.{sound}
 use Rattle.record.specs.Section.{written}
@@ -48,17 +49,17 @@ module _ (s : List ℕ) (g : ℕ) (s′ : List ℕ) (g′ : ℕ) where
 
   pub accepted-says : (n : ℕ) → accepted n ≡ mergeOutcome s g s′ g′ → Accepted n
   unfolding mergeGrounds
-  accepted-says n e = by (sound s g) refl (sound s′ g′) refl (anyOf overflows (mergeSections s g s′ g′)) refl (ltb (capacity (length s)) (length (mergeSections s g s′ g′))) refl e
-    where
-      by : (a : Bool) → sound s g ≡ a → (b : Bool) → sound s′ g′ ≡ b → (c : Bool) → anyOf overflows (mergeSections s g s′ g′) ≡ c
-          → (d : Bool) → ltb (capacity (length s)) (length (mergeSections s g s′ g′)) ≡ d
-          → accepted n ≡ outcome (ground 7 (not a || not b) ∷ ground 11 c ∷ ground 12 d ∷ []) (length (mergeSections s g s′ g′)) → Accepted n
-      by true p true q false r false t e =
-          record { sound₁ = rw p tt; sound₂ = rw q tt; few = r; groups = cc; room = ltb-false (capacity (length s)) (length (mergeSections s g s′ g′)) t }
-      by true p true q false r true t e = let z : _≡_ {A = ℕ} 0 1 = cc in absurd (omega arith)
-      by true p true q true r d t e = let z : _≡_ {A = ℕ} 0 1 = cc in absurd (omega arith)
-      by true p false q c r d t e = let z : _≡_ {A = ℕ} 0 1 = cc in absurd (omega arith)
-      by false p b q c r d t e = let z : _≡_ {A = ℕ} 0 1 = cc in absurd (omega arith)
+  accepted-says n e =
+      let us = mergeSections s g s′ g′ in
+      let none : (k : ℕ) → condition k (mergeGrounds s g s′ g′) ≡ false = λ k. accepted-not k (mergeGrounds s g s′ g′) (length us) (sym e) in
+      let both = both-false (not (sound s g)) (not (sound s′ g′)) (none 7) in
+      record {
+        sound₁ = rw (not-false (sound s g) (both .0)) tt;
+        sound₂ = rw (not-false (sound s′ g′) (both .1)) tt;
+        few = none 11;
+        groups = sym (accepted-value (mergeGrounds s g s′ g′) (length us) (sym e));
+        room = ltb-false (capacity (length s)) (length us) (none 12);
+      }
 
   -- the bytes that an accepted and a refused merge leave
   pub leaves-written : {n : ℕ} {t : List ℕ} → accepted n ≡ mergeOutcome s g s′ g′ → t ≡ written (mergeSections s g s′ g′) s → t ≡ mergeLeaves s g s′ g′

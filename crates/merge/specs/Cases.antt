@@ -11,7 +11,7 @@ use Rattle.record.specs.Keys.{rising}
 use Rattle.record.specs.Sound.{soundTotal, isZero, soundRecord, soundRecords, sound}
 use Rattle.refusal.specs.Outcome.{accepted, refused}
 use Rattle.table.specs.Combine.{levelOf, combine, absorb, merged}
-use Rattle.table.specs.Calls.{mergeGrounds, mergeOutcome, mergeLeaves}
+use Rattle.table.specs.Calls.{mostRows, mergeGrounds, mergeOutcome, mergeLeaves}
 use Rattle.lists.specs.Lists.{anyOf}
 
 -- a table of one record: its rows are n zeros
@@ -38,7 +38,7 @@ unfolding mergeGrounds merged absorb combine levelOf anyOf sound soundRecords so
 counts-added = refl
 
 -- one row onto a sound record at that count
-too-many : mergeOutcome (zeroRows 7 4294967295) 1 (zeroRows 7 1) 1 ≡ refused 11
+too-many : mergeOutcome (zeroRows 7 mostRows) 1 (zeroRows 7 1) 1 ≡ refused 11
 unfolding mergeGrounds merged absorb combine levelOf anyOf sound soundRecords soundRecord soundTotal isZero rising cells decode encode bytes numberAt number
 too-many = refl
 

@@ -7,8 +7,7 @@ use Prim.Native.Nat.{ℕ, zero, suc, _+_, _*_, _≤_, _<_}
 use native.Mathlib.Nat.{lt-irrefl}
 use native.Mathlib.Omega.{arith}
 use borrow.Author.Tests.{eq-eqb, ne-eqb, eqb-false}
-use lib.Dec.{T, eqb, ltb}
-use lib.Ieee.Fits.{and-r}
+use lib.Dec.{T, eqb}
 use lib.ListN.{length, getD}
 use Rattle.codec.proofs.Cells.{length-cells}
 use Rattle.record.specs.declared.Record.{Record}
@@ -18,13 +17,8 @@ use Rattle.record.specs.Keys.{recordKeys, rising, has, place}
 use Rattle.record.specs.Section.{meaning, sections, find}
 use Rattle.record.specs.Sound.{sound, soundRecord}
 use Rattle.record.proofs.Laws.{getD-records, length-keys}
-use Rattle.record.proofs.Order.{rising-lt, place-is-at, place-is-gap}
+use Rattle.record.proofs.Order.{rising-tail, rising-lt, place-is-at, place-is-gap}
 use Rattle.record.proofs.Sound.{sound-parts, sound-at}
-
-tail-rising : (x : ℕ) (xs : List ℕ) → T (rising (x ∷ xs)) → T (rising xs)
-unfolding rising
-tail-rising x [] h = tt
-tail-rising x (y ∷ ys) h = and-r (ltb x y) (rising (y ∷ ys)) h
 
 find-at : (k : ℕ) (rs : List Record) (i : ℕ) (d : Record) → T (rising (recordKeys rs)) → i < length (recordKeys rs) → getD (recordKeys rs) i 0 ≡ k → find k (map meaning rs) ≡ some (meaning (getD rs i d))
 unfolding find
@@ -33,7 +27,7 @@ find-at k (r ∷ rs) zero d h l e = rw (eq-eqb k (r .key) (sym e))
 find-at k (r ∷ rs) (suc i) d h l e =
     let m : r .key < getD (recordKeys rs) i 0 = rising-lt (recordKeys (r ∷ rs)) h 0 (suc i) (omega arith) l in
     let n : k ≡ r .key → ⊥ = λ f. lt-irrefl k (omega arith) in
-    rw (ne-eqb k (r .key) n) (find-at k rs i d (tail-rising (r .key) (recordKeys rs) h) (omega arith) e)
+    rw (ne-eqb k (r .key) n) (find-at k rs i d (rising-tail (r .key) (recordKeys rs) h) (omega arith) e)
 
 find-none : (k : ℕ) (rs : List Record) → has k (recordKeys rs) ≡ false → find k (map meaning rs) ≡ none
 unfolding find has

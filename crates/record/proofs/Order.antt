@@ -23,16 +23,16 @@ head-lt x (y ∷ ys) h zero l = ltb→lt x y (and-l (ltb x y) (rising (y ∷ ys)
 head-lt x (y ∷ ys) h (suc j) l =
     lt-trans (ltb→lt x y (and-l (ltb x y) (rising (y ∷ ys)) h)) (head-lt y ys (and-r (ltb x y) (rising (y ∷ ys)) h) j (omega arith))
 
-tail : (x : ℕ) (xs : List ℕ) → T (rising (x ∷ xs)) → T (rising xs)
+pub rising-tail : (x : ℕ) (xs : List ℕ) → T (rising (x ∷ xs)) → T (rising xs)
 unfolding rising
-tail x [] h = tt
-tail x (y ∷ ys) h = and-r (ltb x y) (rising (y ∷ ys)) h
+rising-tail x [] h = tt
+rising-tail x (y ∷ ys) h = and-r (ltb x y) (rising (y ∷ ys)) h
 
 pub rising-lt : (ks : List ℕ) → T (rising ks) → (i j : ℕ) → i < j → j < length ks → getD ks i 0 < getD ks j 0
 rising-lt [] h i j l m = absurd (omega arith)
 rising-lt (x ∷ xs) h i zero l m = absurd (omega arith)
 rising-lt (x ∷ xs) h zero (suc j) l m = head-lt x xs h j (omega arith)
-rising-lt (x ∷ xs) h (suc i) (suc j) l m = rising-lt xs (tail x xs h) i j (omega arith) (omega arith)
+rising-lt (x ∷ xs) h (suc i) (suc j) l m = rising-lt xs (rising-tail x xs h) i j (omega arith) (omega arith)
 
 below-none : (k : ℕ) (xs : List ℕ) → ((j : ℕ) → j < length xs → k ≤ getD xs j 0) → countBelow k xs ≡ 0
 unfolding countBelow
@@ -55,14 +55,14 @@ module _ (k : ℕ) where
   below-lt [] h i l m = absurd (omega arith)
   below-lt (x ∷ xs) h zero l m = rw (lt-ltb x k m) (omega arith)
   below-lt (x ∷ xs) h (suc i) l m =
-      rw (lt-ltb x k (lt-trans (head-lt x xs h i (omega arith)) m)) (omega (arith, below-lt xs (tail x xs h) i (omega arith) m))
+      rw (lt-ltb x k (lt-trans (head-lt x xs h i (omega arith)) m)) (omega (arith, below-lt xs (rising-tail x xs h) i (omega arith) m))
 
   pub below-ge : (ks : List ℕ) → T (rising ks) → (i : ℕ) → i < length ks → k ≤ getD ks i 0 → countBelow k ks ≤ i
   unfolding countBelow
   below-ge [] h i l m = absurd (omega arith)
   below-ge (x ∷ xs) h zero l m =
       rw (le-ltb x k m, below-none k xs (λ j n. omega (arith, head-lt x xs h j n))) zero-le
-  below-ge (x ∷ xs) h (suc i) l m = by (ltb x k) (below-ge xs (tail x xs h) i (omega arith) m)
+  below-ge (x ∷ xs) h (suc i) l m = by (ltb x k) (below-ge xs (rising-tail x xs h) i (omega arith) m)
     where
       by : (b : Bool) → countBelow k xs ≤ i → cond b (suc (countBelow k xs)) (countBelow k xs) ≤ suc i
       by true h = omega arith
@@ -116,7 +116,7 @@ first-above x k (suc i) (y ∷ ys) h m = m (omega arith)
 pub rising-insert : (k : ℕ) (ks : List ℕ) → T (rising ks) → has k ks ≡ false → T (rising (take (countBelow k ks) ks ++ k ∷ drop (countBelow k ks) ks))
 unfolding has countBelow rising
 rising-insert k [] r n = tt
-rising-insert k (x ∷ xs) r n = by (ltb x k) refl (rising-insert k xs (tail x xs r) (both-false (eqb x k) (has k xs) n .1))
+rising-insert k (x ∷ xs) r n = by (ltb x k) refl (rising-insert k xs (rising-tail x xs r) (both-false (eqb x k) (has k xs) n .1))
   where
     by : (b : Bool) → ltb x k ≡ b
         → T (rising (take (countBelow k xs) xs ++ k ∷ drop (countBelow k xs) xs))

@@ -6,10 +6,11 @@ use native.Mathlib.Omega.{arith}
 use lib.Dec.{T, ltb, leb, eqb, ltb→lt, leb→le, eqb→eq}
 use lib.Ieee.Fits.{and-l, and-r}
 use lib.IntN.{ℤ, pos, natAbs, _+ℤ_, _*ℤ_}
+use Rattle.level.specs.Level.{levelBound}
 use Rattle.integers.proofs.Diff.{ints, byParts}
 use Rattle.integers.proofs.Laws.{size-zero}
 use Rattle.level.specs.declared.SplitTotal.{SplitTotal}
-use Rattle.level.specs.Carry.{totalOf, InRange}
+use Rattle.level.specs.Carry.{carryBase, totalOf, InRange}
 use Rattle.record.specs.declared.Record.{Record}
 use Rattle.record.specs.Sound.{soundTotal, soundRecord, isZero}
 
@@ -73,17 +74,17 @@ sound-record-parts r h =
     }
 
 -- ---- a level: its residue and its total are bounded, and with fewer than 2^32 rows so is its carry
-carry-small : (s : ℕ) (z : ℤ) → natAbs z * 2 ^ 50 ≤ natAbs (z *ℤ pos (2 ^ 50) +ℤ pos s) + s
+carry-small : (s : ℕ) (z : ℤ) → natAbs z * carryBase ≤ natAbs (z *ℤ pos (carryBase) +ℤ pos s) + s
 carry-small s = byParts _ (λ a b. simp ints (omega arith))
 
 module _ (n : ℕ) (h : SplitTotal) (t : T (soundTotal n h)) where
-  pub residue-bound : h .residue < 2 ^ 50
+  pub residue-bound : h .residue < carryBase
   unfolding soundTotal
-  residue-bound = ltb→lt (h .residue) (2 ^ 50) (and-l (ltb (h .residue) (2 ^ 50)) (leb (natAbs (totalOf h)) (n * 2 ^ 39)) t)
+  residue-bound = ltb→lt (h .residue) (carryBase) (and-l (ltb (h .residue) (carryBase)) (leb (natAbs (totalOf h)) (n * levelBound)) t)
 
-  pub total-bound : natAbs (totalOf h) ≤ n * 2 ^ 39
+  pub total-bound : natAbs (totalOf h) ≤ n * levelBound
   unfolding soundTotal
-  total-bound = leb→le (natAbs (totalOf h)) (n * 2 ^ 39) (and-r (ltb (h .residue) (2 ^ 50)) (leb (natAbs (totalOf h)) (n * 2 ^ 39)) t)
+  total-bound = leb→le (natAbs (totalOf h)) (n * levelBound) (and-r (ltb (h .residue) (carryBase)) (leb (natAbs (totalOf h)) (n * levelBound)) t)
 
   pub carry-bound : n < 2 ^ 32 → natAbs (h .carry) < 2 ^ 22
   carry-bound l = omega (arith, residue-bound, total-bound, carry-small (h .residue) (h .carry))

@@ -8,12 +8,12 @@ use lib.Ieee.Fits.{and-l, and-r, and-i}
 use lib.ListN.{length, getD}
 use Rattle.record.specs.declared.Record.{Record}
 use Rattle.record.specs.Keys.{recordKeys, rising}
-use Rattle.record.specs.Layout.{records, capacity}
+use Rattle.record.specs.Layout.{mostGroups, records, capacity}
 use Rattle.record.specs.Sound.{soundRecord, soundRecords, sound}
 
 -- ---- a sound table, part by part
 
-pub sound-parts : (s : List ℕ) (g : ℕ) → T (sound s g) → (g * 64 ≤ length s) × (g ≤ 1024) × T (rising (recordKeys (records s g))) × T (soundRecords (records s g))
+pub sound-parts : (s : List ℕ) (g : ℕ) → T (sound s g) → (g * 64 ≤ length s) × (g ≤ mostGroups) × T (rising (recordKeys (records s g))) × T (soundRecords (records s g))
 unfolding sound
 sound-parts s g t =
     let a = leb g (capacity (length s)) in
@@ -22,7 +22,7 @@ sound-parts s g t =
     let h = leb→le g (capacity (length s)) (and-l a (c && d) t) in
     (omega arith, omega arith, and-l c d (and-r a (c && d) t), and-r c d (and-r a (c && d) t))
 
-pub sound-if : (s : List ℕ) (g : ℕ) → g * 64 ≤ length s → g ≤ 1024 → T (rising (recordKeys (records s g))) → T (soundRecords (records s g)) → T (sound s g)
+pub sound-if : (s : List ℕ) (g : ℕ) → g * 64 ≤ length s → g ≤ mostGroups → T (rising (recordKeys (records s g))) → T (soundRecords (records s g)) → T (sound s g)
 unfolding sound
 sound-if s g h k r t =
     and-i (leb g (capacity (length s))) (rising (recordKeys (records s g)) && soundRecords (records s g))

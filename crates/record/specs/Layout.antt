@@ -42,6 +42,10 @@ encode r =
 abbrev pub records : List ℕ → ℕ → List Record
 records s g = cells 64 decode g s
 
+-- the most groups that a table can have
+abbrev pub mostGroups : ℕ
+mostGroups = 1024
+
 -- document 01's capacity of a buffer of n bytes
 abbrev pub capacity : ℕ → ℕ
-capacity n = min (n / 64) 1024
+capacity n = min (n / 64) mostGroups

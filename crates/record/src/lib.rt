@@ -112,10 +112,13 @@ pub fn insert(t: &mut [u8], g: usize, i: usize, r: Record)
     put(t, i, r);
 }
 
+// The most groups that a table can have.
+const MOST_GROUPS: usize = 1024;
+
 // How many groups a buffer of n bytes has room for.
 pub fn capacity(n: usize) -> usize
     ensures { λ r. ⌜ r ≡ Rattle.record.specs.Layout.capacity n ⌝ }
 {
     let all = n / 64;
-    if all < 1024 { all } else { 1024 }
+    if all < MOST_GROUPS { all } else { MOST_GROUPS }
 }

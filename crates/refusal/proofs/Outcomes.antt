@@ -41,7 +41,7 @@ abbrev pub numbersBelow : ℕ → List Ground → Bool
 numbersBelow m [] = true
 numbersBelow m (c ∷ cs) = ltb (c .refusal) m && numbersBelow m cs
 
--- a refusal's number is that of one of the grounds
+-- a refusal's number is below m where every ground's is
 pub refused-below : {A : Type 0} (m : ℕ) (gs : List Ground) (x : A) {n : ℕ} → numbersBelow m gs ≡ true → outcome gs x ≡ refused n → n < m
 refused-below m [] x b e = absurd (accepted≢refused (sym e))
 refused-below m (c ∷ cs) x {n} b e = let p = both-true (ltb (c .refusal) m) (numbersBelow m cs) b in go (c .holds) (ltb-true (c .refusal) m (p .0)) (refused-below m cs x (p .1)) e

@@ -29,7 +29,7 @@ abbrev pub condition : ℕ → List Ground → Bool
 condition n [] = false
 condition n (c ∷ cs) = cond (eqb n (c .refusal)) (c .holds) (condition n cs)
 
--- n is the lowest number whose condition holds
+-- the condition of n holds, and of no lower number; in a list whose numbers rise n is then the lowest number whose condition holds
 abbrev pub IsLowest : ℕ → List Ground → Type 0
 IsLowest n gs = (condition n gs ≡ true) × ((m : ℕ) → m < n → condition m gs ≡ false)
 

@@ -57,9 +57,13 @@ lineWith key count last = decimal key ++ space ++ decimal count ++ space ++ last
 unfoldable pub lineText : Section → List ℕ
 lineText s = lineWith (s .key) (s .count) (lastFields (sumOf (some s)) (figureOf (some s)))
 
--- the bytes of a table of 64 groups, and of its work buffer
+-- how many groups the report's table has room for
+abbrev pub tableGroups : ℕ
+tableGroups = 64
+
+-- the bytes of that table, and of its work buffer
 abbrev pub tableSize : ℕ
-tableSize = 64 * 64
+tableSize = tableGroups * 64
 
 -- an empty table
 abbrev pub emptyTable : List ℕ

@@ -15,7 +15,7 @@ ghost use Rattle.finish.specs.Steps.{FiniteSum};
 ghost use Rattle.numerals.specs.Numerals.{decimal, hexadecimal};
 ghost use Rattle.numerals.specs.Steps.{Continued, bitsSize};
 ghost use Rattle.columns.specs.declared.Kind.the-variants.{Double};
-ghost use Rattle.report.specs.Text.{space, lineFeed, refusalText, lastFields, lineWith, lineText, headLine, columnsText, reportText};
+ghost use Rattle.report.specs.Text.{tableGroups, space, lineFeed, refusalText, lastFields, lineWith, lineText, headLine, columnsText, reportText};
 ghost use Rattle.report.specs.Answer.{printedAnswer, printOutcome, printLeaves};
 ghost use Rattle.report.specs.Steps.{refusalSize, startSize, lineSize, refusedFieldsSize, longestLine, textSize};
 use finish::FinishedLine;
@@ -24,6 +24,12 @@ use finish::SectionSum;
 use patch::Reading;
 use record::Record;
 use table::TableAnswer;
+
+// The longest text.
+pub const TEXT_SIZE: usize = 4096;
+
+// The bytes of a table of 64 groups, and of its work buffer.
+const TABLE_SIZE: usize = 64 * 64;
 
 // What printing into a lent buffer answers: the text's length, or that the buffer is shorter.
 pub enum Printed {
@@ -118,7 +124,7 @@ fn print_sections(text: &mut [u8], at: usize, table: &[u8], g: usize) -> usize
 
 // The head line and a line for each section.
 fn print_table(text: &mut [u8], table: &[u8], g: usize) -> usize
-    requires { ⌜ (g ≤ 64) × (textSize ≤ length (now text)) ⌝ }
+    requires { ⌜ (g ≤ tableGroups) × (textSize ≤ length (now text)) ⌝ }
     requires { ⌜ T (sound (now table) g) ⌝ }
     ensures { λ r. ⌜ Continued (now (text .entry)) 0 (headLine ++ image lineText (sections (now (table .entry)) g)) textSize (now (text .exit)) r ⌝ }
 {
@@ -131,8 +137,8 @@ fn print_columns(text: &mut [u8], keys: &[u8], values: &[u8]) -> usize
     requires { ⌜ textSize ≤ length (now text) ⌝ }
     ensures { λ r. ⌜ Continued (now (text .entry)) 0 (columnsText Double (now (keys .entry)) (now (values .entry))) textSize (now (text .exit)) r ⌝ }
 {
-    let mut table = [0u8; 4096];
-    let mut work = [0u8; 4096];
+    let mut table = [0u8; TABLE_SIZE];
+    let mut work = [0u8; TABLE_SIZE];
     match add::add(&mut table, 0, keys, values, &mut work) {
         TableAnswer::Groups(g) => print_table(text, &table, g),
         TableAnswer::Refused(r) => print_refusal(text, 0, refusal::number_of(r)),
@@ -155,7 +161,7 @@ pub fn report(file: &[u8], out: &mut [u8]) -> Printed
     ensures answer { λ r. ⌜ printedAnswer r ≡ printOutcome (now (out .entry)) (reportText (now (file .entry))) ⌝ }
     ensures content { λ r. ⌜ now (out .exit) ≡ printLeaves (now (out .entry)) (reportText (now (file .entry))) ⌝ }
 {
-    let mut text = [0u8; 4096];
+    let mut text = [0u8; TEXT_SIZE];
     let n = print_file(&mut text, file);
     if out.len() < n {
         return Printed::TooShort;

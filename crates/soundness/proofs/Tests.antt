@@ -12,6 +12,7 @@ use lib.ListN.{length, getD, drop, length-drop}
 use lib.Seq.{drop-cons}
 use mir.Syntax.{w64}
 use mir.Val.{toZ, ofZ, SFits}
+use Rattle.level.specs.Carry.{carryBase}
 use Rattle.codec.proofs.Laws.{sign-known, turned, low-half}
 use Rattle.record.specs.declared.Record.{Record}
 use Rattle.record.specs.Keys.{rising}
@@ -34,14 +35,14 @@ size-below : (n s : ℕ) → s < n → natAbs (negℤ (pos n) +ℤ pos s) ≡ n 
 size-below zero s h = absurd (omega arith)
 size-below (suc n) s h = rw (lt-ltb s (suc n) h) (omega arith)
 
-pub size-negative : (z : ℤ) (s : ℕ) → SFits w64 z → s < 2 ^ 50 → ltZ (toZ w64 (ofZ w64 z)) (pos 0) ≡ true
-    → natAbs (z *ℤ pos (2 ^ 50) +ℤ pos s) ≡ natAbs (toZ w64 (2 ^ 64 - 1 - ofZ w64 z)) * 2 ^ 50 + (2 ^ 50 - s)
+pub size-negative : (z : ℤ) (s : ℕ) → SFits w64 z → s < carryBase → ltZ (toZ w64 (ofZ w64 z)) (pos 0) ≡ true
+    → natAbs (z *ℤ pos (carryBase) +ℤ pos s) ≡ natAbs (toZ w64 (2 ^ 64 - 1 - ofZ w64 z)) * carryBase + (carryBase - s)
 size-negative (pos n) s f h e = absurd (omega (arith, sign-known (pos n) f true e))
 size-negative (negsuc k) s f h e =
-    omega (arith, size-below (suc k * 2 ^ 50) s (omega arith), turned (negsuc k) f e .1)
+    omega (arith, size-below (suc k * carryBase) s (omega arith), turned (negsuc k) f e .1)
 
 pub size-positive : (z : ℤ) (s : ℕ) → SFits w64 z → ltZ (toZ w64 (ofZ w64 z)) (pos 0) ≡ false
-    → natAbs (z *ℤ pos (2 ^ 50) +ℤ pos s) ≡ natAbs (toZ w64 (ofZ w64 z)) * 2 ^ 50 + s
+    → natAbs (z *ℤ pos (carryBase) +ℤ pos s) ≡ natAbs (toZ w64 (ofZ w64 z)) * carryBase + s
 size-positive (pos n) s f e = omega (arith, low-half n (f .sfits) .1)
 size-positive (negsuc k) s f e = absurd (omega (arith, sign-known (negsuc k) f false e))
 

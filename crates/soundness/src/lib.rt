@@ -4,16 +4,15 @@ ghost use mathlib.Core.Bool.{_&&_, _||_};
 ghost use Prim.Native.Nat.{_+_, _*_, _^_, _≤_};
 ghost use lib.ListN.{length};
 ghost use lib.Dec.{leb};
+ghost use Rattle.level.specs.Level.{levelBound};
+ghost use Rattle.level.specs.Carry.{carryBase};
 ghost use Rattle.record.specs.Layout.{records};
 ghost use Rattle.record.specs.Keys.{recordKeys, rising};
 ghost use Rattle.record.specs.Sound.{soundTotal, isZero, soundRecord, soundRecords, sound};
+use level::CARRY_BASE;
+use level::LEVEL_BOUND;
 use level::SplitTotal;
 use record::Record;
-
-// A total is its carry times 2^50, and its residue; at most 2^39 a row in size.
-const CARRY_BASE: u64 = 1 << 50;
-
-const LEVEL_BOUND: u64 = 1 << 39;
 
 fn both(a: bool, b: bool) -> bool
     ensures { λ r. ⌜ r ≡ a && b ⌝ }
@@ -29,8 +28,8 @@ fn either(a: bool, b: bool) -> bool
 
 // Whether k * 2^50 + s is at most count * 2^39: neither side need fit 64 bits.
 fn at_most(k: u64, s: u64, count: u32) -> bool
-    requires { ⌜ s ≤ 2 ^ 50 ⌝ }
-    ensures { λ r. ⌜ r ≡ leb (k * 2 ^ 50 + s) (count * 2 ^ 39) ⌝ }
+    requires { ⌜ s ≤ carryBase ⌝ }
+    ensures { λ r. ⌜ r ≡ leb (k * carryBase + s) (count * levelBound) ⌝ }
 {
     let q = (count / 2048) as u64;
     if k < q {

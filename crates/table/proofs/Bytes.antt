@@ -13,9 +13,10 @@ use lib.Seq.{drop-append-add, drop-drop}
 use lib.IntN.{ℤ, pos, negsuc, natAbs}
 use mir.Syntax.{w64}
 use mir.Val.{SFits}
+use Rattle.level.specs.Level.{levelBound}
 use Rattle.codec.specs.Cells.{cells, image}
 use Rattle.codec.proofs.Cells.{cells-cons, length-image}
-use Rattle.level.specs.Carry.{carryOf, residueOf, splitOf}
+use Rattle.level.specs.Carry.{carryBase, carryOf, residueOf, splitOf}
 use Rattle.level.proofs.Carry.{residue-lt, total-split}
 use Rattle.record.specs.Layout.{encode, decode, records, capacity}
 use Rattle.record.specs.Keys.{recordKeys, rising}
@@ -64,9 +65,9 @@ in-range s f =
       low = split-in-range (s .low) (omega (arith, p .low));
     }
 
-sound-total : (n : ℕ) (z : ℤ) → natAbs z ≤ n * 2 ^ 39 → soundTotal n (splitOf z) ≡ true
+sound-total : (n : ℕ) (z : ℤ) → natAbs z ≤ n * levelBound → soundTotal n (splitOf z) ≡ true
 unfolding soundTotal
-sound-total n z h = rw (lt-ltb (residueOf z) (2 ^ 50) (residue-lt z), total-split z) (le-leb (natAbs z) (n * 2 ^ 39) h)
+sound-total n z h = rw (lt-ltb (residueOf z) (carryBase) (residue-lt z), total-split z) (le-leb (natAbs z) (n * levelBound) h)
 
 none-below : (i t : ℕ) (z : ℤ) → (t < i → z ≡ pos 0) → (leb i t || isZero (splitOf z)) ≡ true
 unfolding isZero

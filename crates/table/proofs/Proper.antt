@@ -8,7 +8,7 @@ use lib.Dec.{leb, eqb}
 use lib.IntN.{ℤ, pos, _+ℤ_, natAbs}
 use borrow.Author.Tests.{lt-leb}
 use Rattle.integers.proofs.Laws.{natAbs-+ℤ}
-use Rattle.level.specs.Level.{below, top, contribution}
+use Rattle.level.specs.Level.{levelBound, below, top, contribution}
 use Rattle.level.proofs.Top.{top-le, contribution-bound}
 use Rattle.record.specs.Section.{Section, sectionAt}
 use Rattle.columns.specs.Columns.{Row}
@@ -21,9 +21,9 @@ pub record Proper (s : Section) : Type 0 where
   pub key : s .key < 2 ^ 32
   pub count : 1 ≤ s .count
   pub top : s .top ≤ 52
-  pub high : natAbs (s .high) ≤ s .count * 2 ^ 39
-  pub middle : natAbs (s .middle) ≤ s .count * 2 ^ 39
-  pub low : natAbs (s .low) ≤ s .count * 2 ^ 39
+  pub high : natAbs (s .high) ≤ s .count * levelBound
+  pub middle : natAbs (s .middle) ≤ s .count * levelBound
+  pub low : natAbs (s .low) ≤ s .count * levelBound
   pub second : s .top < 1 → s .middle ≡ pos 0
   pub third : s .top < 2 → s .low ≡ pos 0
 
@@ -32,16 +32,16 @@ cond-bound : (m : ℕ) (b : Bool) (x y : ℤ) → natAbs x ≤ m → natAbs y �
 cond-bound m true x y p q = p
 cond-bound m false x y p q = q
 
-levelOf-bound : (s : Section) → Proper s → (j : ℕ) → natAbs (levelOf s j) ≤ s .count * 2 ^ 39
+levelOf-bound : (s : Section) → Proper s → (j : ℕ) → natAbs (levelOf s j) ≤ s .count * levelBound
 unfolding levelOf
 levelOf-bound s p j =
-    let m = s .count * 2 ^ 39 in
+    let m = s .count * levelBound in
     cond-bound m (eqb j (s .top)) (s .high) _ (p .high)
     (cond-bound m (eqb (j + 1) (s .top)) (s .middle) _ (p .middle) (cond-bound m (eqb (j + 2) (s .top)) (s .low) (pos 0) (p .low) (omega arith)))
 
-module _ (k n t : ℕ) (f : ℕ → ℤ) (bound : (j : ℕ) → natAbs (f j) ≤ n * 2 ^ 39) where
-  below-bound : (i : ℕ) → natAbs (below f t i) ≤ n * 2 ^ 39
-  below-bound i = cond-bound (n * 2 ^ 39) (leb i t) (f (t - i)) (pos 0) (bound (t - i)) (omega arith)
+module _ (k n t : ℕ) (f : ℕ → ℤ) (bound : (j : ℕ) → natAbs (f j) ≤ n * levelBound) where
+  below-bound : (i : ℕ) → natAbs (below f t i) ≤ n * levelBound
+  below-bound i = cond-bound (n * levelBound) (leb i t) (f (t - i)) (pos 0) (bound (t - i)) (omega arith)
 
   pub sectionAt-proper : k < 2 ^ 32 → 1 ≤ n → t ≤ 52 → Proper (sectionAt k n t f)
   sectionAt-proper h c l = record {

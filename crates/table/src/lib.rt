@@ -8,7 +8,7 @@ ghost use Rattle.level.specs.Carry.{splitOf};
 ghost use Rattle.record.specs.Sound.{soundRecord};
 ghost use Rattle.record.specs.Section.{meaning, recordOf};
 ghost use Rattle.table.specs.Combine.{ofRow, levelOf, bothAt, combine};
-ghost use Rattle.table.specs.Calls.{columnOutcome};
+ghost use Rattle.table.specs.Calls.{mostRows, columnOutcome};
 ghost use Rattle.table.specs.Answer.{checkAnswer};
 ghost use Rattle.table.specs.Steps.{splitIn};
 use columns::Kind;
@@ -110,7 +110,7 @@ fn larger(x: u32, y: u32) -> u32
 pub fn combined_same_top(a: Record, b: Record) -> Record
     requires { ⌜ T (soundRecord a) ⌝ }
     requires { ⌜ T (soundRecord b) ⌝ }
-    requires { ⌜ (a .top ≡ b .top) × (a .count + b .count < 2 ^ 32) ⌝ }
+    requires { ⌜ (a .top ≡ b .top) × (a .count + b .count ≤ mostRows) ⌝ }
     ensures { λ r. ⌜ r ≡ recordOf (combine (meaning a) (meaning b)) ⌝ }
 {
     Record {
@@ -128,7 +128,7 @@ pub fn combined_same_top(a: Record, b: Record) -> Record
 pub fn combined_by_level(a: Record, b: Record) -> Record
     requires { ⌜ T (soundRecord a) ⌝ }
     requires { ⌜ T (soundRecord b) ⌝ }
-    requires { ⌜ a .count + b .count < 2 ^ 32 ⌝ }
+    requires { ⌜ a .count + b .count ≤ mostRows ⌝ }
     ensures { λ r. ⌜ r ≡ recordOf (combine (meaning a) (meaning b)) ⌝ }
 {
     let t = larger(a.top, b.top);
@@ -148,7 +148,7 @@ pub fn combined_by_level(a: Record, b: Record) -> Record
 pub fn combined(a: Record, b: Record) -> Record
     requires { ⌜ T (soundRecord a) ⌝ }
     requires { ⌜ T (soundRecord b) ⌝ }
-    requires { ⌜ a .count + b .count < 2 ^ 32 ⌝ }
+    requires { ⌜ a .count + b .count ≤ mostRows ⌝ }
     ensures { λ r. ⌜ r ≡ recordOf (combine (meaning a) (meaning b)) ⌝ }
 {
     if a.top == b.top {

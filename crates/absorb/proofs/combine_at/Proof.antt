@@ -1,5 +1,5 @@
 -- `combine_at` writes the two records combined, whichever way they go.
-use Prim.Native.Nat.{ℕ, _+_, _*_, _^_, _<_}
+use Prim.Native.Nat.{ℕ, _+_, _*_, _≤_}
 use mathlib.Core.Path.{_≡_, sym, ap, _∙_, subst}
 use mathlib.Core.List.{List}
 use lib.Dec.{T}
@@ -9,6 +9,7 @@ use Rattle.record.specs.Layout.{recordAt}
 use Rattle.record.specs.Sound.{soundRecord}
 use Rattle.record.specs.Section.{meaning, recordOf}
 use Rattle.table.specs.Combine.{combine}
+use Rattle.table.specs.Calls.{mostRows}
 use Rattle.absorb.specs.Steps.{PutAt}
 use Rattle.absorb.proofs.combine_at.Statement.{statement}
 use Rattle.absorb.proofs.combine_at.Tie as tie
@@ -24,8 +25,8 @@ module _ (c : tie.After-get) where
   old-sound : T (soundRecord old)
   old-sound = subst (λ (x : Record). T (soundRecord x)) (sym (c .get .ensures)) (start .pre .1 .0)
 
-  few : old .count + start .args .r .count < 2 ^ 32
-  few = subst (λ (x : Record). x .count + start .args .r .count < 2 ^ 32) (sym (c .get .ensures)) (start .pre .1 .1 .1)
+  few : old .count + start .args .r .count ≤ mostRows
+  few = subst (λ (x : Record). x .count + start .args .r .count ≤ mostRows) (sym (c .get .ensures)) (start .pre .1 .1 .1)
 
   -- the record that was made of it, written
   stored-here : (x : Record) (s : List ℕ) → x ≡ recordOf (combine (meaning old) (meaning (start .args .r))) → PutAt (start .args .t .now) (start .args .i * 64) x s

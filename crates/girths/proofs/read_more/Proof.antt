@@ -1,5 +1,5 @@
 -- `girths::read_more` reads into the part after the first `done` bytes, which stay.
-use Prim.Native.Nat.{ℕ, _-_}
+use Prim.Native.Nat.{_-_}
 use mathlib.Core.Path.{_≡_}
 use lib.ListN.{length, take}
 use borrow.Author.Needs.{needs}

@@ -7,6 +7,7 @@ use mir.Syntax.{w64}
 use mir.Val.{toZ, ofZ}
 use mir.ValLaws.{toZ-ofZ}
 use lib.IntN.{ℤ, pos, natAbs, _+ℤ_}
+use Rattle.level.specs.Carry.{carryBase}
 use Rattle.integers.proofs.Laws.{natAbs-+ℤ, back}
 use Rattle.level.proofs.Carry.{split-sum}
 use Rattle.level.proofs.add_totals.Statement.{statement}
@@ -39,14 +40,14 @@ returns c =
     let residue = c .before .before .before .before .last-digits .ensures in
     let carry =
     toZ-ofZ w64 (c .plus2 .result) (record { sfits = c .plus2 .ok }) ∙ c .plus2 .ensures
-    ∙ second (s .args .a .carry) (s .args .b .carry) (p .result) (o .result) ((s .args .a .residue + s .args .b .residue) / 2 ^ 50)
+    ∙ second (s .args .a .carry) (s .args .b .carry) (p .result) (o .result) ((s .args .a .residue + s .args .b .residue) / carryBase)
     (s .pre .2) (s .pre .3) (p .ensures) (o .ensures) (omega arith) in
     (λ i. record { residue = residue i; carry = carry i }) ∙ sym (split-sum (s .args .a) (s .args .b))
 
 plus-requires-2 : tie.Need-plus-requires-2
 plus-requires-2 c κs =
     let s = c .before .before .before .before .before .before .before in
-    room (s .args .a .carry) (s .args .b .carry) (c .plus .result) (c .before .before .before .before .with-sign .result) ((s .args .a .residue + s .args .b .residue) / 2 ^ 50)
+    room (s .args .a .carry) (s .args .b .carry) (c .plus .result) (c .before .before .before .before .with-sign .result) ((s .args .a .residue + s .args .b .residue) / carryBase)
     (s .pre .2) (s .pre .3) (c .plus .ensures) (c .before .before .before .before .with-sign .ensures) (omega arith)
 
 pub add-totals-spec : {M : Type 1} → statement M

@@ -1,17 +1,16 @@
 -- `carry_of`: the shift is the division rounding down.
 use mathlib.Core.Path.{_≡_}
-use Prim.Native.Nat.{_^_}
 use mir.Syntax.{w64}
 use mir.Val.{toZ, ofZ, SFits}
 use mir.ValLaws.{toZ-ofZ, sfits-le}
 use lib.IntN.{ℤ}
 use lib.Signed.{shrZ, mag-shr}
-use Rattle.level.specs.Carry.{carryOf}
+use Rattle.level.specs.Carry.{carryBase, carryOf}
 use Rattle.level.proofs.carry_of.Statement.{statement}
 use Rattle.level.proofs.carry_of.Tie as tie
 
-shifted : (z : ℤ) → SFits w64 z → toZ w64 (ofZ w64 (shrZ (toZ w64 (ofZ w64 z)) (2 ^ 50))) ≡ carryOf z
-shifted z f = rw (toZ-ofZ w64 z f) (toZ-ofZ w64 (carryOf z) (sfits-le (mag-shr z (2 ^ 50)) f))
+shifted : (z : ℤ) → SFits w64 z → toZ w64 (ofZ w64 (shrZ (toZ w64 (ofZ w64 z)) (carryBase))) ≡ carryOf z
+shifted z f = rw (toZ-ofZ w64 z f) (toZ-ofZ w64 (carryOf z) (sfits-le (mag-shr z (carryBase)) f))
 
 returns : tie.Need-returns
 returns c = shifted (c .args .total) (c .fits .total)

@@ -7,16 +7,16 @@ use mir.Val.{toZ, ofZ, SFits}
 use mir.ValLaws.{toZ-pos}
 use lib.Bits.{bitAnd, and-mask}
 use lib.IntN.{ℤ, pos, negsuc, natAbs}
-use Rattle.level.specs.Carry.{residueOf}
+use Rattle.level.specs.Carry.{carryBase, residueOf}
 use Rattle.level.proofs.Carry.{residue-lt, low-fifty}
 use Rattle.level.proofs.residue_of.Statement.{statement}
 use Rattle.level.proofs.residue_of.Tie as tie
 
-masked : (z : ℤ) → SFits w64 z → bitAnd (ofZ w64 z) (2 ^ 50 - 1) ≡ residueOf z
+masked : (z : ℤ) → SFits w64 z → bitAnd (ofZ w64 z) (carryBase - 1) ≡ residueOf z
 masked (pos n) f = and-mask n 50
 masked (negsuc n) f = and-mask (2 ^ 64 - suc n) 50 ∙ low-fifty n (f .sfits)
 
-read : (z : ℤ) → SFits w64 z → toZ w64 (bitAnd (ofZ w64 z) (2 ^ 50 - 1)) ≡ pos (residueOf z)
+read : (z : ℤ) → SFits w64 z → toZ w64 (bitAnd (ofZ w64 z) (carryBase - 1)) ≡ pos (residueOf z)
 read z f = ap (toZ w64) (masked z f) ∙ toZ-pos w64 (residueOf z) (omega (arith, residue-lt z))
 
 cast-result : tie.Need-cast-result

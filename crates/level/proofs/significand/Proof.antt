@@ -1,4 +1,4 @@
--- `digits` is the significand.
+-- `significand` is the significand.
 use mathlib.Core.Path.{sym, ap, _∙_}
 use Prim.Native.Nat.{ℕ, _^_}
 use native.Mathlib.Omega.{arith}

@@ -3,13 +3,14 @@ use Prim.Native.Nat.{_*_, _≤_, _<_}
 use mathlib.Core.Path.{_≡_, sym, _∙_}
 use native.Mathlib.Omega.{arith}
 use lib.ListN.{length}
+use Rattle.record.specs.Layout.{mostGroups}
 use Rattle.record.proofs.Sound.{sound-parts}
 use Rattle.merge.proofs.Walk.{second-last, first-last, both-last}
 use borrow.Author.Needs.{needs}
 use Rattle.merge.proofs.previous.Statement.{statement}
 use Rattle.merge.proofs.previous.Tie as tie
 
-fits : (c : tie.Start) → (c .args .i * 64 ≤ length (c .args .first .now)) × (c .args .j * 64 ≤ length (c .args .second .now)) × (c .args .i ≤ 1024) × (c .args .j ≤ 1024) × (0 < c .args .j)
+fits : (c : tie.Start) → (c .args .i * 64 ≤ length (c .args .first .now)) × (c .args .j * 64 ≤ length (c .args .second .now)) × (c .args .i ≤ mostGroups) × (c .args .j ≤ mostGroups) × (0 < c .args .j)
 fits c =
     let p = sound-parts (c .args .first .now) (c .args .i) (c .pre .0) in
     let q = sound-parts (c .args .second .now) (c .args .j) (c .pre .1 .0) in

@@ -1,4 +1,4 @@
--- `numerals::width`: each iteration takes one digit off.
+-- `numerals::decimal_length`: each iteration takes one digit off.
 use Prim.Native.Nat.{_+_, _≤_}
 use mathlib.Core.Path.{_≡_, refl}
 use native.Mathlib.Omega.{arith}

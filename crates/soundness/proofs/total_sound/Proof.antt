@@ -1,10 +1,10 @@
-use Prim.Native.Nat.{_^_}
 use mathlib.Core.Path.{refl, _∙_}
 use mathlib.Core.Bool.{false}
 use native.Mathlib.Omega.{arith}
 use borrow.Author.Tests.{lt-ltb, le-ltb}
 use mir.Syntax.{w64}
 use mir.Val.{ofZ, SFits}
+use Rattle.level.specs.Carry.{carryBase}
 use Rattle.codec.proofs.Laws.{turned, low-half, sign-known}
 use Rattle.record.specs.Sound.{soundTotal}
 use Rattle.soundness.proofs.Tests.{size-negative, size-positive}
@@ -26,7 +26,7 @@ returns c =
     let a = c .before .before .before .before in
     let x = a .args .x in
     let e = size-negative (x .carry) (x .residue) (in-range a) (c .before .before .if1 .taken) (c .before .if2 .taken) in
-    c .at-most .ensures ∙ rw (lt-ltb (x .residue) (2 ^ 50) (c .before .before .if1 .taken), e) refl
+    c .at-most .ensures ∙ rw (lt-ltb (x .residue) (carryBase) (c .before .before .if1 .taken), e) refl
 
 cast-at-most-2 : tie.Need-cast-at-most-2
 cast-at-most-2 c =
@@ -41,11 +41,11 @@ returns-2 c =
     let a = c .before .before .before .before in
     let x = a .args .x in
     let e = size-positive (x .carry) (x .residue) (in-range a) (c .before .if2 .left) in
-    c .at-most2 .ensures ∙ rw (lt-ltb (x .residue) (2 ^ 50) (c .before .before .if1 .taken), e) refl
+    c .at-most2 .ensures ∙ rw (lt-ltb (x .residue) (carryBase) (c .before .before .if1 .taken), e) refl
 
 returns-3 : tie.Need-returns-3
 unfolding soundTotal
-returns-3 c = rw (le-ltb (c .before .before .args .x .residue) (2 ^ 50) (c .if1 .left))
+returns-3 c = rw (le-ltb (c .before .before .args .x .residue) (carryBase) (c .if1 .left))
 
 pub total-sound-spec : {M : Type 1} → statement M
 total-sound-spec =
