@@ -1,4 +1,4 @@
--- Laws of little-endian bytes, for any width.
+-- Laws of little-endian bytes, for any width. The idea: a field is its first byte and 256 times the field after it, so most go by induction on the width.
 use Prim.Native.Nat.{ℕ, zero, suc, _+_, _-_, _*_, _/_, _%_, _^_, _<_, _≤_, zero-le}
 use mathlib.Core.Path.{_≡_, refl, sym, ap, subst, _∙_}
 use mathlib.Core.List.{List, [], _∷_, _++_, append-assoc}

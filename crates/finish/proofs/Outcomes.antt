@@ -1,4 +1,4 @@
--- The figure and the line, from the sum. The idea: one case split by the kept value's size (`by-size`) and one by the lookup (`by-lookup`) serve all three.
+-- The figure and the line, from the sum. The idea: one case split by the kept value's size (`by-size`) and one by the lookup (`by-lookup`) serve sum, figure and line.
 use mathlib.Core.Path.{_≡_, refl, sym, ap, _∙_, subst}
 use mathlib.Core.Bool.{Bool, true, false, cond}
 use mathlib.Core.List.{List, [], _∷_}

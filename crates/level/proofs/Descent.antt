@@ -1,4 +1,5 @@
--- What a number gives to a level and to the levels below it, by the sizes of what is left.
+-- What a number gives to a level and to the levels below it, by the sizes of what is left. The idea: in place of a unit 2^40 times smaller, what is left is
+-- taken 2^40 times larger (`scaled`).
 use mathlib.Core.Path.{_≡_, refl, sym, ap, ap₂, _∙_}
 use mathlib.Core.Bool.{Bool, true, false, not}
 use Prim.Native.Nat.{ℕ, zero, suc, _-_, _*_, _^_, _≤_, _<_, zero-le}

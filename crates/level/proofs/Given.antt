@@ -1,4 +1,4 @@
--- What a number gives to the levels, for a general level number.
+-- What a number gives to the levels, for a general level number. The idea: one step takes the highest level off (`given-step`), and leaves at most half its unit.
 use mathlib.Core.Path.{_≡_, refl, sym, ap, _∙_}
 use mathlib.Core.Bool.{Bool, true, false, cond}
 use mathlib.Core.Logic.{inl, inr}

@@ -1,4 +1,4 @@
--- What the levels from t down hold of a number, and what is left.
+-- What the levels from t down hold of a number, and what is left. The idea: the two are together the number, and what is left is at most half the last unit.
 use mathlib.Core.Path.{_≡_, refl, sym, ap, ap₂, _∙_, fun-ext}
 use Prim.Native.Nat.{ℕ, zero, suc, _-_, _*_, _^_, _≤_, _<_}
 use native.Mathlib.Nat.{sub-zero, zero-sub, suc-sub-suc, le-refl, le-trans, zero-mul, mul-assoc}

@@ -1,4 +1,4 @@
--- A sound table and its last record; tables whose used bytes agree; what is written at the end.
+-- A sound table and its last record; tables whose used bytes agree; what is written at the end. The idea: a table is its records but the last, and the last.
 use Prim.Native.Nat.{ℕ, zero, suc, _+_, _-_, _*_, _≤_, _<_}
 use mathlib.Core.Path.{_≡_, refl, sym, _∙_, ap, ap₂, subst}
 use mathlib.Core.Bool.{Bool, true, false, _||_, or-false, or-assoc}

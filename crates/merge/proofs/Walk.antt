@@ -1,4 +1,5 @@
--- One step back through two sound tables: whose record is the last, and what is left.
+-- One step back through two sound tables: whose record is the last, and what is left. The idea: the larger of the two last keys is the last of the union, and
+-- equal ones are one section.
 use Prim.Native.Nat.{ℕ, suc, _+_, _-_, _*_, _≤_, _<_}
 use mathlib.Core.Path.{_≡_, refl, sym, _∙_, ap, ap₂, subst}
 use mathlib.Core.Bool.{_||_}

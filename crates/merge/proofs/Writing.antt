@@ -1,4 +1,5 @@
--- The bytes of the first table while the union is written from its end.
+-- The bytes of the first table while the union is written from its end. The idea: what is still to be written, once written, gives what is to be (`Unwritten`),
+-- and the place written never lies before the last record still to be read.
 use Prim.Native.Nat.{ℕ, _+_, _-_, _*_, _≤_}
 use mathlib.Core.Path.{_≡_, sym, _∙_, ap, ap₂}
 use mathlib.Core.Bool.{false}

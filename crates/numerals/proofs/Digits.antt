@@ -1,4 +1,4 @@
--- How many digits a number has, and that they are its last digits.
+-- How many digits a number has, and that they are its last digits. The idea: a number of two digits and more has one more than its tenth part.
 use Prim.Native.Nat.{ℕ, zero, suc, _+_, _*_, _/_, _%_, _^_, _<_, _≤_}
 use mathlib.Core.Path.{_≡_, refl, ap, _∙_}
 use mathlib.Core.List.{List, [], _∷_, _++_}

@@ -1,4 +1,4 @@
--- Laws of records in bytes.
+-- Laws of records in bytes. The idea: each field is read where it was stored, and the stores of a record, one after the other, are one run.
 use Prim.Native.Nat.{ℕ, _+_, _-_, _*_, _^_, _<_, _≤_}
 use mathlib.Core.Path.{_≡_, sym, ap, ap₂, _∙_}
 use mathlib.Core.List.{List, _∷_, _++_, append-assoc}

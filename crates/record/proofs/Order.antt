@@ -1,4 +1,4 @@
--- Laws of rising keys.
+-- Laws of rising keys. The idea: among rising keys those below k are the first ones, so that their number (`countBelow`) is where k stands or would stand.
 use Prim.Native.Nat.{ℕ, zero, suc, _<_, _≤_, zero-le}
 use mathlib.Core.Path.{_≡_, refl, sym, ap, subst}
 use mathlib.Core.Bool.{Bool, true, false, cond, _||_, or-true, true≢false}

@@ -1,4 +1,5 @@
--- A sound record, condition by condition, and the range of each level.
+-- A sound record, condition by condition, and the range of each level. The idea: the conditions are taken apart once (`sound-record-parts`), and a total of
+-- fewer than 2^32 rows has a small carry.
 use Prim.Native.Nat.{ℕ, _+_, _*_, _^_, _≤_, _<_}
 use mathlib.Core.Path.{_≡_}
 use mathlib.Core.Bool.{Bool, true, false, _&&_, _||_}

@@ -1,4 +1,5 @@
--- A line in the buffer, a section's line by its finished line, and the sections of a sound table in their places.
+-- A line in the buffer, a section's line by its finished line, and the sections of a sound table in their places. The idea: each piece continues the text
+-- before it, so that a line is the pieces one after the other.
 use Prim.Native.Nat.{ℕ, suc, _+_, _*_, _<_, _≤_}
 use mathlib.Core.Path.{_≡_, refl, sym, ap, _∙_}
 use mathlib.Core.Bool.{Bool, true, false, cond}

@@ -1,4 +1,4 @@
--- Sections in bytes: what is written is read back, and is a sound table.
+-- Sections in bytes: what is written is read back, and is a sound table. The idea: what holds of one record and its bytes holds of all cells of a table.
 use Prim.Native.Nat.{ℕ, suc, _+_, _-_, _*_, _^_, _≤_, _<_}
 use mathlib.Core.Path.{_≡_, refl, _∙_, ap, ap₂}
 use mathlib.Core.Bool.{true, _||_}

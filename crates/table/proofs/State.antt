@@ -1,4 +1,5 @@
--- A sound table in bytes: its sections fit, their keys rise, and its used bytes are those of its sections.
+-- A sound table in bytes: its sections fit, their keys rise, and its used bytes are those of its sections. The idea: a sound record and its section determine
+-- each other (`record-meaning`).
 use Prim.Native.Nat.{ℕ, zero, suc, _*_, _^_, _≤_, _<_}
 use mathlib.Core.Path.{_≡_, refl, sym, ap, ap₂, _∙_, subst}
 use mathlib.Core.List.{List, [], _∷_, _++_, map}

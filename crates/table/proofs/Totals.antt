@@ -1,4 +1,4 @@
--- What a sound record holds at a level.
+-- What a sound record holds at a level. The idea: its three levels are looked through as its section's are, and at one top those of two records stand side by side.
 use Prim.Native.Nat.{ℕ, _+_, _-_, _^_, _≤_, _<_}
 use mathlib.Core.Path.{_≡_, refl, sym, ap, ap₂, _∙_}
 use mathlib.Core.Bool.{Bool, true, false, cond}
