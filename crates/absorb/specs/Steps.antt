@@ -18,13 +18,13 @@ abbrev pub PutAt : List ℕ → ℕ → Record → List ℕ → Type 0
 PutAt s at r s′ = (s′ ≡ sets s at (encode r)) × (decode (encode r) ≡ r)
 
 -- the bytes s hold a sound table of g records, the sections ts, at most `room` of them
-pub record Holds (ts : List Section) (room : ℕ) (s : List ℕ) (g : ℕ) : Type 0 where
+pub record HoldsSections (ts : List Section) (room : ℕ) (s : List ℕ) (g : ℕ) : Type 0 where
   pub held : sections s g ≡ ts
   pub group-count : g ≡ length ts
   pub bounded : g ≤ room
-  pub good : T (sound s g)
+  pub sound-table : T (sound s g)
 
 -- the section x brought into ts: the bytes s then hold it, or there is no room
 abbrev pub Absorbs : Section → ℕ → List Section → List ℕ → Absorbed → Type 0
-Absorbs x room ts s (Into g i) = Holds (absorb x ts) room s g
+Absorbs x room ts s (Into g i) = HoldsSections (absorb x ts) room s g
 Absorbs x room ts s NoRoom = room < length (absorb x ts)

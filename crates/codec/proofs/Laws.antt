@@ -197,7 +197,7 @@ sign-bits (negsuc n) f = omega arith
 pub sign-known : (z : ℤ) → SFits w64 z → (b : Bool) → ltZ (toZ w64 (ofZ w64 z)) (pos 0) ≡ b → Sign b z
 sign-known z f b e = subst (λ (t : Bool). Sign t z) (rw (toZ-ofZ w64 z f) at e) (sign-bits z f)
 
--- the bits of a negative number, turned over, are in the lower half
-pub turned : (z : ℤ) → SFits w64 z → ltZ (toZ w64 (ofZ w64 z)) (pos 0) ≡ true
+-- the bits of a negative number, complemented, are in the lower half
+pub complement-low : (z : ℤ) → SFits w64 z → ltZ (toZ w64 (ofZ w64 z)) (pos 0) ≡ true
     → T (nonNeg (toZ w64 (2 ^ 64 - 1 - ofZ w64 z))) × (natAbs (toZ w64 (2 ^ 64 - 1 - ofZ w64 z)) ≡ 2 ^ 64 - 1 - ofZ w64 z)
-turned z f e = let h = sign-known z f true e in low-half (2 ^ 64 - 1 - ofZ w64 z) (omega arith)
+complement-low z f e = let h = sign-known z f true e in low-half (2 ^ 64 - 1 - ofZ w64 z) (omega arith)

@@ -38,9 +38,9 @@ module _ (gs : List Ground) (len m : ℕ) (room : condition 12 gs ≡ ltb (capac
       let q : m ≡ n = accepted-value gs m e in
       omega (arith, min-le-right (len / 64) mostGroups)
 
-pub add-groups : (s : List ℕ) (g : ℕ) (ks vs : List ℕ) (work : ℕ) {n : ℕ} → addOutcome Double s g ks vs work ≡ accepted n → n ≤ mostGroups
+pub add-groups : (s : List ℕ) (g : ℕ) (ks vs : List ℕ) (workLen : ℕ) {n : ℕ} → addOutcome Double s g ks vs workLen ≡ accepted n → n ≤ mostGroups
 unfolding addGrounds columnGrounds
-add-groups s g ks vs work = groups-le (addGrounds Double s g ks vs work) (length s) (length (addSections Double s g ks vs)) refl
+add-groups s g ks vs workLen = groups-le (addGrounds Double s g ks vs workLen) (length s) (length (addSections Double s g ks vs)) refl
 
 pub merge-groups : (s : List ℕ) (g : ℕ) (s′ : List ℕ) (g′ : ℕ) {n : ℕ} → mergeOutcome s g s′ g′ ≡ accepted n → n ≤ mostGroups
 unfolding mergeGrounds

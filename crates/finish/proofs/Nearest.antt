@@ -121,12 +121,12 @@ module _ (s : Bool) (n : ℕ) where
   near-signed t m j h =
       le-trans (le-of-eq (same-sign s n size-of))
       (⊎-elim
-      (λ e. le-trans (digits-near n m j h) (le-of-eq (sym (turned e ∙ same-sign s n (m * 2 ^ j)))))
-      (λ e. le-trans (digits-near n 0 0 (pow-pos 53)) (le-trans (farther n (m * 2 ^ j)) (le-of-eq (sym (turned e ∙ other-sign s n (m * 2 ^ j))))))
+      (λ e. le-trans (digits-near n m j h) (le-of-eq (sym (same-distance e ∙ same-sign s n (m * 2 ^ j)))))
+      (λ e. le-trans (digits-near n 0 0 (pow-pos 53)) (le-trans (farther n (m * 2 ^ j)) (le-of-eq (sym (same-distance e ∙ other-sign s n (m * 2 ^ j))))))
       (by-sign s t))
     where
-      turned : {u : Bool} → t ≡ u → natAbs (signed s n -ℤ signed t (m * 2 ^ j)) ≡ natAbs (signed s n -ℤ signed u (m * 2 ^ j))
-      turned e = ap (λ (x : Bool). natAbs (signed s n -ℤ signed x (m * 2 ^ j))) e
+      same-distance : {u : Bool} → t ≡ u → natAbs (signed s n -ℤ signed t (m * 2 ^ j)) ≡ natAbs (signed s n -ℤ signed u (m * 2 ^ j))
+      same-distance e = ap (λ (x : Bool). natAbs (signed s n -ℤ signed x (m * 2 ^ j))) e
 
       farther : (n a : ℕ) → absDiff n (0 * 2 ^ 0) ≤ n + a
       farther n a = omega arith

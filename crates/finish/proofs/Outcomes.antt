@@ -1,6 +1,7 @@
--- The figure and the line, from the sum. The idea: one case split by the kept value's size (`by-size`) and one by the lookup (`by-lookup`) serve sum, figure and line.
-use mathlib.Core.Path.{_≡_, refl, sym, ap, _∙_, subst}
-use mathlib.Core.Bool.{Bool, true, false, cond}
+-- The figure and the line, from the sum; and what an outcome of finishing says of the table. The idea: sum, figure and line differ only in their conditions and
+-- values, so that each case split (by the kept value's size, by the table and the section, by a lookup) serves all three.
+use mathlib.Core.Path.{_≡_, refl, sym, ap, subst}
+use mathlib.Core.Bool.{Bool, true, false, not, cond}
 use mathlib.Core.List.{List, [], _∷_}
 use mathlib.Core.Option.{Option, none, some}
 use Prim.Native.Nat.{ℕ}
@@ -10,13 +11,13 @@ use lib.Dec.{T}
 use lib.IntN.{ℤ}
 use lib.Ieee.{Float}
 use lib.Ieee.Scale.{finite}
-use Rattle.refusal.specs.Outcome.{Outcome, accepted, refused, ground, outcome}
-use Rattle.refusal.proofs.Outcomes.{accepted≢refused, accepted-not, accepted-value}
+use Rattle.refusal.specs.Outcome.{Outcome, accepted, refused, Ground, ground, outcome, IsLowest, risingFrom}
+use Rattle.refusal.proofs.Outcomes.{accepted≢refused, accepted-not, accepted-value, lowest, refused-alike}
 use Rattle.record.specs.Sound.{sound, soundRecord}
 use Rattle.record.specs.Section.{Section, kept, meaning, sections, find}
 use Rattle.finish.specs.Sum.{nearestDouble, tooLarge}
 use Rattle.finish.specs.Figure.{beyond}
-use Rattle.finish.specs.Finish.{sumOf, figureFor, figureOf, lineFor, lineOf, finishing, sumOutcome, lineOutcome}
+use Rattle.finish.specs.Finish.{sumFor, figureFor, lineFor, sumGrounds, figureGrounds, finishedBy, foundGrounds, finishingGrounds, sumOf, figureOf, lineOf, finishing, sumOutcome, figureOutcome, lineOutcome}
 use Rattle.finish.specs.Answer.{sumAnswer}
 use Rattle.finish.specs.Steps.{LookedUp, keptSum, FiniteSum, figureBy, lineBy}
 use Rattle.record.specs.declared.Record.{Record}
@@ -65,9 +66,8 @@ pub record SumGiven (s : Section) (x : Float) : Type 0 where
 
 pub sum-given : (s : Section) (x : Float) → sumOf (some s) ≡ accepted x → SumGiven s x
 sum-given s x e =
-    let gs = ground 14 (tooLarge (kept s)) ∷ [] in
-    let q = accepted-value gs (nearestDouble (kept s)) e in
-    let l = accepted-not 14 gs (nearestDouble (kept s)) e in
+    let q = accepted-value (sumGrounds s) (sumFor s) e in
+    let l = accepted-not 14 (sumGrounds s) (sumFor s) e in
     record { is = q; small = l; finite-sum = rw (← q) (nearest-finite (kept s) l) }
 
 pub record LineGiven (s : Section) (l : FinishedLine) : Type 0 where
@@ -78,33 +78,55 @@ pub record LineGiven (s : Section) (l : FinishedLine) : Type 0 where
 
 pub line-given : (s : Section) (l : FinishedLine) → lineOf (some s) ≡ accepted l → LineGiven s l
 line-given s l e =
-    let gs = ground 14 (tooLarge (kept s)) ∷ ground 15 (beyond (figureFor s)) ∷ [] in
-    let q = accepted-value gs (lineFor s) e in
-    let small = accepted-not 14 gs (lineFor s) e in
-    record { is = q; small = small; within = accepted-not 15 gs (lineFor s) e; finite-sum = rw (← q) (nearest-finite (kept s) small) }
+    let q = accepted-value (figureGrounds s) (lineFor s) e in
+    let small = accepted-not 14 (figureGrounds s) (lineFor s) e in
+    record { is = q; small = small; within = accepted-not 15 (figureGrounds s) (lineFor s) e; finite-sum = rw (← q) (nearest-finite (kept s) small) }
 
 -- ---- on a table
 
--- an answer that is accepted is that of a section that is there
-pub section-given : {A : Type 0} (f : Option Section → Outcome A) (s : List ℕ) (g k : ℕ) (x : A) → f none ≡ refused 13
-    → accepted x ≡ finishing f s g k → (t : Section) × (f (some t) ≡ accepted x)
-section-given {A} f s g k x n e = by (sound s g) (find k (sections s g)) e
-  where
-    by : (b : Bool) (o : Option Section) → accepted x ≡ cond b (f o) (refused 7) → (t : Section) × (f (some t) ≡ accepted x)
-    by true (some t) q = (t, sym q)
-    by true none q = absurd (accepted≢refused (sym (q ∙ n)))
-    by false o q = absurd (accepted≢refused (sym q))
+module _ {A : Type 0} (gs : Section → List Ground) (v : Section → A) (s : List ℕ) (g k : ℕ) where
+  -- an answer that is accepted is that of a section that is there
+  pub section-given : (x : A) → accepted x ≡ finishing (finishedBy gs v) s g k → (t : Section) × (outcome (gs t) (v t) ≡ accepted x)
+  section-given x e = by (sound s g) (find k (sections s g)) e
+    where
+      by : (b : Bool) (o : Option Section) → accepted x ≡ cond b (finishedBy gs v o) (refused 7) → (t : Section) × (outcome (gs t) (v t) ≡ accepted x)
+      by true (some t) q = (t, sym q)
+      by true none q = absurd (accepted≢refused (sym q))
+      by false o q = absurd (accepted≢refused (sym q))
+
+  -- one that is refused has the lowest number whose condition holds
+  pub finishing-lowest : ((t : Section) → risingFrom 14 (gs t) ≡ true) → {n : ℕ} → finishing (finishedBy gs v) s g k ≡ refused n → IsLowest n (finishingGrounds gs s g k)
+  finishing-lowest rising {n} e =
+      lowest 7 (finishingGrounds gs s g k) n (rises (find k (sections s g))) (by (sound s g) (find k (sections s g)) e)
+    where
+      rises : (o : Option Section) → risingFrom 8 (foundGrounds gs o) ≡ true
+      rises none = refl
+      rises (some t) = rising t
+
+      by : (b : Bool) (o : Option Section) → cond b (finishedBy gs v o) (refused 7) ≡ refused n → outcome (ground 7 (not b) ∷ foundGrounds gs o) n ≡ refused n
+      by false o q = ap refused cc
+      by true none q = ap refused cc
+      by true (some t) q = refused-alike (gs t) (v t) n q
+
+pub sum-lowest : (s : List ℕ) (g k : ℕ) {n : ℕ} → sumOutcome s g k ≡ refused n → IsLowest n (finishingGrounds sumGrounds s g k)
+sum-lowest s g k = finishing-lowest sumGrounds sumFor s g k (λ t. refl)
+
+pub figure-lowest : (s : List ℕ) (g k : ℕ) {n : ℕ} → figureOutcome s g k ≡ refused n → IsLowest n (finishingGrounds figureGrounds s g k)
+figure-lowest s g k = finishing-lowest figureGrounds figureFor s g k (λ t. refl)
+
+pub line-lowest : (s : List ℕ) (g k : ℕ) {n : ℕ} → lineOutcome s g k ≡ refused n → IsLowest n (finishingGrounds figureGrounds s g k)
+line-lowest s g k = finishing-lowest figureGrounds lineFor s g k (λ t. refl)
 
 -- a float that a sum gives is finite
 pub finite-outcome : (a : SectionSum) (s : List ℕ) (g k : ℕ) → sumAnswer a ≡ sumOutcome s g k → FiniteSum a
 finite-outcome Absent s g k e = tt
 finite-outcome TooLarge s g k e = tt
 finite-outcome NotSound s g k e = tt
-finite-outcome (Finite x) s g k e = let t = section-given sumOf s g k x refl e in sum-given (t .0) x (t .1) .finite-sum
+finite-outcome (Finite x) s g k e = let t = section-given sumGrounds sumFor s g k x e in sum-given (t .0) x (t .1) .finite-sum
 
 -- and so is the sum of a line
 pub finite-line : (l : FinishedLine) (s : List ℕ) (g k : ℕ) → accepted l ≡ lineOutcome s g k → T (finite (l .sum))
-finite-line l s g k e = let t = section-given lineOf s g k l refl e in line-given (t .0) l (t .1) .finite-sum
+finite-line l s g k e = let t = section-given figureGrounds lineFor s g k l e in line-given (t .0) l (t .1) .finite-sum
 
 -- ---- the line of a figure
 

@@ -114,7 +114,7 @@ pub fn record_sum(r: Record) -> SectionSum
     requires { ⌜ T (soundRecord r) ⌝ }
     ensures { λ x. ⌜ x ≡ keptSum (kept (meaning r)) ⌝ }
 {
-    let d = limbs::abs_diff(raised_limbs(r.high, r.middle, r.low), raise());
+    let d = limbs::signed_difference(raised_limbs(r.high, r.middle, r.low), raise());
     let size = d.limbs;
     if limbs::is_zero(size) {
         return SectionSum::Finite(0.0);
@@ -140,7 +140,7 @@ fn nearest_hundredths(m: u64, r: u64, negative: bool) -> u64
 }
 
 // How many binary digits of the significand stand below 1.
-fn places(exponent: u64) -> u64
+fn digits_below_one(exponent: u64) -> u64
     requires { ⌜ exponent ≤ 1074 ⌝ }
     ensures { λ r. ⌜ (r + (exponent - 1) ≡ 1074) × (0 < r) ⌝ }
 {
@@ -161,7 +161,7 @@ fn figure_of_size(n: u64, negative: bool) -> FigureAnswer
 }
 
 // The mill figure of a finite sum.
-fn figure_of(sum: f64) -> FigureAnswer
+fn mill_figure(sum: f64) -> FigureAnswer
     requires { ⌜ T (finite sum) ⌝ }
     ensures { λ r. ⌜ figureAnswer r ≡ cond (beyond (millFigure sum)) (refused 15) (accepted (millFigure sum)) ⌝ }
 {
@@ -172,7 +172,11 @@ fn figure_of(sum: f64) -> FigureAnswer
     }
     let negative = level::is_negative(bits);
     figure_of_size(
-        nearest_hundredths(level::significand(bits), places(exponent), negative),
+        nearest_hundredths(
+            level::significand(bits),
+            digits_below_one(exponent),
+            negative,
+        ),
         negative,
     )
 }
@@ -183,7 +187,7 @@ fn figure_by(sum: SectionSum) -> FigureAnswer
     ensures { λ r. ⌜ figureAnswer r ≡ figureBy (sumAnswer sum) ⌝ }
 {
     match sum {
-        SectionSum::Finite(x) => figure_of(x),
+        SectionSum::Finite(x) => mill_figure(x),
         SectionSum::Absent => FigureAnswer::Refused(Refusal::SectionAbsent),
         SectionSum::TooLarge => FigureAnswer::Refused(Refusal::SumTooLarge),
         SectionSum::NotSound => FigureAnswer::Refused(Refusal::TableNotSound),
@@ -191,11 +195,11 @@ fn figure_by(sum: SectionSum) -> FigureAnswer
 }
 
 // The finished line of a finite sum.
-fn line_of(key: u32, count: u32, sum: f64) -> LineAnswer
+fn line_of_double(key: u32, count: u32, sum: f64) -> LineAnswer
     requires { ⌜ T (finite sum) ⌝ }
     ensures { λ r. ⌜ lineAnswer r ≡ lineBy key count (accepted sum) ⌝ }
 {
-    match figure_of(sum) {
+    match mill_figure(sum) {
         FigureAnswer::Figure(figure) => LineAnswer::Line(FinishedLine {
             key,
             count,
@@ -212,7 +216,7 @@ fn line_by(key: u32, count: u32, sum: SectionSum) -> LineAnswer
     ensures { λ r. ⌜ lineAnswer r ≡ lineBy key count (sumAnswer sum) ⌝ }
 {
     match sum {
-        SectionSum::Finite(x) => line_of(key, count, x),
+        SectionSum::Finite(x) => line_of_double(key, count, x),
         SectionSum::Absent => LineAnswer::Refused(Refusal::SectionAbsent),
         SectionSum::TooLarge => LineAnswer::Refused(Refusal::SumTooLarge),
         SectionSum::NotSound => LineAnswer::Refused(Refusal::TableNotSound),

@@ -4,6 +4,6 @@ use Rattle.girths.specs.declared.Received.{Received}
 use Rattle.girths.specs.declared.Received.the-variants.{Bytes, Failed}
 
 -- it gave at most n bytes
-abbrev pub AtMost : ℕ → Received → Type 0
-AtMost n (Bytes k) = k ≤ n
-AtMost n Failed = Unit {0}
+abbrev pub GaveAtMost : ℕ → Received → Type 0
+GaveAtMost n (Bytes k) = k ≤ n
+GaveAtMost n Failed = Unit {0}

@@ -7,7 +7,7 @@ use report::TEXT_SIZE;
 ghost use Prim.Native.Nat.{_-_, _≤_};
 ghost use mathlib.Core.Path.{_≡_};
 ghost use lib.ListN.{length, take};
-ghost use Rattle.girths.specs.Input.{AtMost};
+ghost use Rattle.girths.specs.Input.{GaveAtMost};
 
 // How many bytes were read, or that a read failed.
 enum Received {
@@ -18,7 +18,7 @@ enum Received {
 // One read after the first done bytes, which stay.
 fn read_more(buffer: &mut [u8], done: usize) -> Received
     requires { ⌜ done ≤ length (now buffer) ⌝ }
-    ensures { λ r. ⌜ AtMost (length (now (buffer .entry)) - done) r ⌝ }
+    ensures { λ r. ⌜ GaveAtMost (length (now (buffer .entry)) - done) r ⌝ }
     ensures { λ _. ⌜ take done (now (buffer .exit)) ≡ take done (now (buffer .entry)) ⌝ }
 {
     let got = libc::read(STDIN_FILENO, &mut buffer[done..]);
@@ -30,7 +30,7 @@ fn read_more(buffer: &mut [u8], done: usize) -> Received
 
 // Reads until the input ends or the buffer is full.
 fn read_all(buffer: &mut [u8]) -> Received
-    ensures { λ r. ⌜ AtMost (length (now (buffer .entry))) r ⌝ }
+    ensures { λ r. ⌜ GaveAtMost (length (now (buffer .entry))) r ⌝ }
 {
     let mut done = 0;
     while done < buffer.len() {

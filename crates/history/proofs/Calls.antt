@@ -16,52 +16,52 @@ use Rattle.history.specs.Run.{Store, State, noGroups, setTable, step, st
 use Rattle.history.proofs.Questions.{ask-is, ask-not-7}
 use Rattle.history.proofs.Tables.{HoldsRows, holds-none, sound-is, add-outcome, add-holds, merge-outcome, merge-holds}
 
--- the state is that of the ledger, where table i's buffer held the bytes start i
-pub record Agrees (start : ℕ → List ℕ) (s : State) (l : Ledger) : Type 0 where
-  pub tables : (i : ℕ) → HoldsRows (start i) (s .tables i) (l .rows i)
+-- the state is that of the ledger, where table i's buffer held the bytes initial i
+pub record Agrees (initial : ℕ → List ℕ) (s : State) (l : Ledger) : Type 0 where
+  pub tables : (i : ℕ) → HoldsRows (initial i) (s .tables i) (l .rows i)
 
-module _ (start : ℕ → List ℕ) where
+module _ (initial : ℕ → List ℕ) where
   -- the lengths of the tables' buffers
   abbrev lens : ℕ → ℕ
-  lens i = length (start i)
+  lens i = length (initial i)
 
-  pub agrees-none : Agrees start (noGroups start) noRows
-  agrees-none = record { tables = λ i. holds-none (start i) }
+  pub agrees-none : Agrees initial (noGroups initial) noRows
+  agrees-none = record { tables = λ i. holds-none (initial i) }
 
-  agrees-set : (s : State) (l : Ledger) → Agrees start s l → (i : ℕ) (t : Store) (rows : List Row) → HoldsRows (start i) t rows
-      → Agrees start (setTable i t s) (setRows i rows l)
+  agrees-set : (s : State) (l : Ledger) → Agrees initial s l → (i : ℕ) (t : Store) (rows : List Row) → HoldsRows (initial i) t rows
+      → Agrees initial (setTable i t s) (setRows i rows l)
   agrees-set s l a i t rows h = record { tables = λ j. go j (ℕ-discrete j i) }
     where
-      go : (j : ℕ) → Dec (j ≡ i) → HoldsRows (start j) (update i t (s .tables) j) (update i rows (l .rows) j)
+      go : (j : ℕ) → Dec (j ≡ i) → HoldsRows (initial j) (update i t (s .tables) j) (update i rows (l .rows) j)
       go j (yes e) = rw (eq-eqb j i e, e) h
       go j (no e) = rw (ne-eqb j i e) (a .tables j)
 
-  module _ (s : State) (l : Ledger) (a : Agrees start s l) where
-    step-agrees : (c : Call) → not (lendsBytes c) ≡ false → Agrees start (step s c) (stepRows lens l c)
+  module _ (s : State) (l : Ledger) (a : Agrees initial s l) where
+    step-agrees : (c : Call) → not (lendsBytes c) ≡ false → Agrees initial (step s c) (stepRows lens l c)
     unfolding step stepRows
-    step-agrees (add i kind ks vs work) b =
-        agrees-set s l a i _ _ (add-holds (start i) (s .tables i) (l .rows i) (a .tables i) kind ks vs work (not-false (areBytes ks && areBytes vs) b))
+    step-agrees (add i kind ks vs workLen) b =
+        agrees-set s l a i _ _ (add-holds (initial i) (s .tables i) (l .rows i) (a .tables i) kind ks vs workLen (not-false (areBytes ks && areBytes vs) b))
     step-agrees (merge i j d) b =
-        agrees-set s l a i _ _ (merge-holds (start i) (s .tables i) (l .rows i) (a .tables i) (start j) (s .tables j) (l .rows j) (a .tables j))
+        agrees-set s l a i _ _ (merge-holds (initial i) (s .tables i) (l .rows i) (a .tables i) (initial j) (s .tables j) (l .rows j) (a .tables j))
     step-agrees (ask i q) b = a
 
     answer-is : (c : Call) → answer s c ≡ answerRows lens l c
     unfolding answer answerRows
-    answer-is (add i kind ks vs work) = ap groupsAre (add-outcome (start i) (s .tables i) (l .rows i) (a .tables i) kind ks vs work)
+    answer-is (add i kind ks vs workLen) = ap groupsAre (add-outcome (initial i) (s .tables i) (l .rows i) (a .tables i) kind ks vs workLen)
     answer-is (merge i j d) =
-        ap groupsAre (merge-outcome (start i) (s .tables i) (l .rows i) (a .tables i) (start j) (s .tables j) (l .rows j) (a .tables j))
-    answer-is (ask i q) = ask-is (s .tables i) (l .rows i) (sound-is (start i) (s .tables i) (l .rows i) (a .tables i)) (a .tables i .holds) q
+        ap groupsAre (merge-outcome (initial i) (s .tables i) (l .rows i) (a .tables i) (initial j) (s .tables j) (l .rows j) (a .tables j))
+    answer-is (ask i q) = ask-is (s .tables i) (l .rows i) (sound-is (initial i) (s .tables i) (l .rows i) (a .tables i)) (a .tables i .holds) q
 
   -- every call's columns hold bytes
   abbrev AllLent : List Call → Type 0
   AllLent cs = All (λ (c : Call). not (lendsBytes c) ≡ false) cs
 
-  pub agrees-after : (s : State) (l : Ledger) → Agrees start s l → (cs : List Call) → AllLent cs → Agrees start (stateAfter s cs) (ledgerAfter lens l cs)
+  pub agrees-after : (s : State) (l : Ledger) → Agrees initial s l → (cs : List Call) → AllLent cs → Agrees initial (stateAfter s cs) (ledgerAfter lens l cs)
   unfolding stateAfter ledgerAfter
   agrees-after s l a [] b = a
   agrees-after s l a (c ∷ cs) b = agrees-after (step s c) (stepRows lens l c) (step-agrees s l a c (b .0)) cs (b .1)
 
-  pub answers-are : (s : State) (l : Ledger) → Agrees start s l → (cs : List Call) → AllLent cs → answers s cs ≡ answersRows lens l cs
+  pub answers-are : (s : State) (l : Ledger) → Agrees initial s l → (cs : List Call) → AllLent cs → answers s cs ≡ answersRows lens l cs
   unfolding answers answersRows
   answers-are s l a [] b = refl
   answers-are s l a (c ∷ cs) b = ap₂ _∷_ (answer-is s l a c) (answers-are (step s c) (stepRows lens l c) (step-agrees s l a c (b .0)) cs (b .1))
@@ -69,7 +69,7 @@ module _ (start : ℕ → List ℕ) where
 -- ---- no answer is 7
 answer-not-7 : (len : ℕ → ℕ) (l : Ledger) (c : Call) → refuses 7 (answerRows len l c) ≡ false
 unfolding answerRows addRowsGrounds mergeRowsGrounds
-answer-not-7 len l (add i kind ks vs work) = not-given 7 (addRowsGrounds kind (len i) (l .rows i) ks vs work) _ refl
+answer-not-7 len l (add i kind ks vs workLen) = not-given 7 (addRowsGrounds kind (len i) (l .rows i) ks vs workLen) _ refl
 answer-not-7 len l (merge i j d) = not-given 7 (mergeRowsGrounds (len i) (l .rows i) (l .rows j)) _ refl
 answer-not-7 len l (ask i q) = ask-not-7 (l .rows i) q
 

@@ -2,15 +2,13 @@
 use Prim.Native.Nat.{ℕ}
 use mathlib.Core.Path.{_≡_, refl, ap}
 use mathlib.Core.Bool.{true, false}
-use mathlib.Core.List.{List, [], _∷_}
+use mathlib.Core.List.{List}
 use mathlib.Core.Option.{Option, none, some}
-use Rattle.refusal.specs.Outcome.{Outcome, ground, isRefusal}
+use Rattle.refusal.specs.Outcome.{Outcome, Ground, isRefusal, isGround}
 use Rattle.refusal.proofs.Outcomes.{not-given}
 use Rattle.record.specs.Sound.{sound}
-use Rattle.record.specs.Section.{Section, sections, kept}
-use Rattle.finish.specs.Finish.{finishing, sumOf, figureOf, lineOf, figureFor}
-use Rattle.finish.specs.Sum.{tooLarge}
-use Rattle.finish.specs.Figure.{beyond}
+use Rattle.record.specs.Section.{Section, sections}
+use Rattle.finish.specs.Finish.{sumFor, figureFor, lineFor, sumGrounds, figureGrounds, finishedBy, finishing, sumOf, figureOf, lineOf}
 use Rattle.columns.specs.Columns.{Row}
 use Rattle.history.specs.Rows.{SameRows, sectionBits}
 use Rattle.history.specs.Canonical.{sectionIf, canonical}
@@ -38,23 +36,13 @@ ask-same (figure k) xs ys h = ap (λ o. figureIs (figureOf o)) (section-same k x
 ask-same (line k) xs ys h = ap (λ o. lineIs (lineOf o)) (section-same k xs ys h)
 
 -- ---- no answer is 7
-sum-not-7 : (o : Option Section) → isRefusal 7 (sumOf o) ≡ false
+finished-not-7 : {A : Type 0} (gs : Section → List Ground) (v : Section → A) → ((t : Section) → isGround 7 (gs t) ≡ false) → (o : Option Section) → isRefusal 7 (finishedBy gs v o) ≡ false
 unfolding isRefusal
-sum-not-7 none = refl
-sum-not-7 (some s) = not-given 7 (ground 14 (tooLarge (kept s)) ∷ []) _ refl
-
-figure-not-7 : (o : Option Section) → isRefusal 7 (figureOf o) ≡ false
-unfolding isRefusal
-figure-not-7 none = refl
-figure-not-7 (some s) = not-given 7 (ground 14 (tooLarge (kept s)) ∷ ground 15 (beyond (figureFor s)) ∷ []) _ refl
-
-line-not-7 : (o : Option Section) → isRefusal 7 (lineOf o) ≡ false
-unfolding isRefusal
-line-not-7 none = refl
-line-not-7 (some s) = not-given 7 (ground 14 (tooLarge (kept s)) ∷ ground 15 (beyond (figureFor s)) ∷ []) _ refl
+finished-not-7 gs v h none = refl
+finished-not-7 gs v h (some t) = not-given 7 (gs t) (v t) (h t)
 
 pub ask-not-7 : (rows : List Row) (q : Question) → refuses 7 (askRows rows q) ≡ false
 unfolding askRows
-ask-not-7 rows (sum k) = sum-not-7 (sectionIf k (sectionBits k rows))
-ask-not-7 rows (figure k) = figure-not-7 (sectionIf k (sectionBits k rows))
-ask-not-7 rows (line k) = line-not-7 (sectionIf k (sectionBits k rows))
+ask-not-7 rows (sum k) = finished-not-7 sumGrounds sumFor (λ t. refl) (sectionIf k (sectionBits k rows))
+ask-not-7 rows (figure k) = finished-not-7 figureGrounds figureFor (λ t. refl) (sectionIf k (sectionBits k rows))
+ask-not-7 rows (line k) = finished-not-7 figureGrounds lineFor (λ t. refl) (sectionIf k (sectionBits k rows))

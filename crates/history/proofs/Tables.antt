@@ -50,44 +50,44 @@ longer rows new = subst (λ (ts : List Section). length (canonical rows) ≤ len
 
 -- ---- a table and its rows
 
--- the table t, in a buffer that held the bytes `start`, holds these rows
-pub record HoldsRows (start : List ℕ) (t : Store) (rows : List Row) : Type 0 where
+-- the table t, in a buffer that held the bytes `initial`, holds these rows
+pub record HoldsRows (initial : List ℕ) (t : Store) (rows : List Row) : Type 0 where
   pub table : ProperTable (t .buffer) (t .groups)
   pub holds : sections (t .buffer) (t .groups) ≡ canonical rows
   pub groups : t .groups ≡ length (canonical rows)
-  pub buffer : t .buffer ≡ written (canonical rows) start
-  pub size : length (t .buffer) ≡ length start
+  pub buffer : t .buffer ≡ written (canonical rows) initial
+  pub size : length (t .buffer) ≡ length initial
 
-pub holds-none : (start : List ℕ) → HoldsRows start (record { buffer = start; groups = 0 }) []
+pub holds-none : (initial : List ℕ) → HoldsRows initial (record { buffer = initial; groups = 0 }) []
 unfolding canonical sectionNumbers image cells
-holds-none start = record { table = proper-none start; holds = refl; groups = refl; buffer = refl; size = refl }
+holds-none initial = record { table = proper-none initial; holds = refl; groups = refl; buffer = refl; size = refl }
 
 pub are-bytes : (s : List ℕ) → areBytes s ≡ true → AreBytes s
 are-bytes [] e i = omega arith
 are-bytes (b ∷ bs) e zero = ltb-true b 256 (both-true (ltb b 256) (areBytes bs) e .0)
 are-bytes (b ∷ bs) e (suc i) = are-bytes bs (both-true (ltb b 256) (areBytes bs) e .1) i
 
-module _ (start : List ℕ) (t : Store) (rows : List Row) (h : HoldsRows start t rows) where
+module _ (initial : List ℕ) (t : Store) (rows : List Row) (h : HoldsRows initial t rows) where
   pub sound-is : sound (t .buffer) (t .groups) ≡ true
   sound-is = is-true (sound (t .buffer) (t .groups)) (h .table .is-sound)
 
   -- a call that would give it the sections of its rows and of new ones: accepted it holds all of them, refused what it held
   after-holds : (new : List Row) (ts : List Section) → ts ≡ canonical (rows ++ new) → (o : Outcome ℕ)
       → ((n : ℕ) → o ≡ accepted n → Left (t .buffer) ts (leaves o ts (t .buffer)) n)
-      → HoldsRows start (after o (leaves o ts (t .buffer)) (t .groups)) (extended o rows new)
+      → HoldsRows initial (after o (leaves o ts (t .buffer)) (t .groups)) (extended o rows new)
   after-holds new ts e (accepted n) f =
       let l = f n refl in
       record {
         table = l .table;
         holds = l .holds ∙ e;
         groups = sym (l .groups) ∙ ap length e;
-        buffer = ap₂ written e (h .buffer) ∙ written-over (canonical rows) (canonical (rows ++ new)) start (longer rows new);
+        buffer = ap₂ written e (h .buffer) ∙ written-over (canonical rows) (canonical (rows ++ new)) initial (longer rows new);
         size = l .size ∙ h .size;
       }
   after-holds new ts e (refused n) f = h
 
-  module _ (kind : Kind) (ks vs : List ℕ) (work : ℕ) where
-    pub add-outcome : addOutcome kind (t .buffer) (t .groups) ks vs work ≡ addRowsOutcome kind (length start) rows ks vs work
+  module _ (kind : Kind) (ks vs : List ℕ) (workLen : ℕ) where
+    pub add-outcome : addOutcome kind (t .buffer) (t .groups) ks vs workLen ≡ addRowsOutcome kind (length initial) rows ks vs workLen
     unfolding addGrounds columnGrounds addRowsGrounds
     add-outcome =
         rw (
@@ -96,21 +96,21 @@ module _ (start : List ℕ) (t : Store) (rows : List Row) (h : HoldsRows start t
           h .size,
           added-canonical rows (rowsOf kind ks vs),
           few-canonical (rows ++ rowsOf kind ks vs),
-          room-canonical (length start) (rows ++ rowsOf kind ks vs),
+          room-canonical (length initial) (rows ++ rowsOf kind ks vs),
           length-canonical (rows ++ rowsOf kind ks vs),
         )
 
     pub add-holds : (areBytes ks && areBytes vs) ≡ true
-        → HoldsRows start (afterAdd kind t ks vs work) (extended (addRowsOutcome kind (length start) rows ks vs work) rows (rowsOf kind ks vs))
+        → HoldsRows initial (afterAdd kind t ks vs workLen) (extended (addRowsOutcome kind (length initial) rows ks vs workLen) rows (rowsOf kind ks vs))
     add-holds b =
-        subst (λ (o : Outcome ℕ). HoldsRows start (afterAdd kind t ks vs work) (extended o rows (rowsOf kind ks vs))) add-outcome
+        subst (λ (o : Outcome ℕ). HoldsRows initial (afterAdd kind t ks vs workLen) (extended o rows (rowsOf kind ks vs))) add-outcome
         (after-holds (rowsOf kind ks vs) (addSections kind (t .buffer) (t .groups) ks vs)
         (ap (λ (ts : List Section). added ts (rowsOf kind ks vs)) (h .holds) ∙ added-canonical rows (rowsOf kind ks vs))
-        (addOutcome kind (t .buffer) (t .groups) ks vs work)
-        (λ n. add-left (t .buffer) (t .groups) (h .table) kind ks vs work (are-bytes ks (both-true (areBytes ks) (areBytes vs) b .0))))
+        (addOutcome kind (t .buffer) (t .groups) ks vs workLen)
+        (λ n. add-left (t .buffer) (t .groups) (h .table) kind ks vs workLen (are-bytes ks (both-true (areBytes ks) (areBytes vs) b .0))))
 
-  module _ (start′ : List ℕ) (u : Store) (others : List Row) (g : HoldsRows start′ u others) where
-    pub merge-outcome : mergeOutcome (t .buffer) (t .groups) (u .buffer) (u .groups) ≡ mergeRowsOutcome (length start) rows others
+  module _ (initial′ : List ℕ) (u : Store) (others : List Row) (g : HoldsRows initial′ u others) where
+    pub merge-outcome : mergeOutcome (t .buffer) (t .groups) (u .buffer) (u .groups) ≡ mergeRowsOutcome (length initial) rows others
     unfolding mergeGrounds mergeRowsGrounds
     merge-outcome =
         rw (
@@ -121,13 +121,13 @@ module _ (start : List ℕ) (t : Store) (rows : List Row) (h : HoldsRows start t
           h .size,
           merged-canonical rows others,
           few-canonical (rows ++ others),
-          room-canonical (length start) (rows ++ others),
+          room-canonical (length initial) (rows ++ others),
           length-canonical (rows ++ others),
         )
 
-    pub merge-holds : HoldsRows start (afterMerge t u) (extended (mergeRowsOutcome (length start) rows others) rows others)
+    pub merge-holds : HoldsRows initial (afterMerge t u) (extended (mergeRowsOutcome (length initial) rows others) rows others)
     merge-holds =
-        subst (λ (o : Outcome ℕ). HoldsRows start (afterMerge t u) (extended o rows others)) merge-outcome
+        subst (λ (o : Outcome ℕ). HoldsRows initial (afterMerge t u) (extended o rows others)) merge-outcome
         (after-holds others (mergeSections (t .buffer) (t .groups) (u .buffer) (u .groups))
         (ap₂ merged (h .holds) (g .holds) ∙ merged-canonical rows others)
         (mergeOutcome (t .buffer) (t .groups) (u .buffer) (u .groups))

@@ -20,13 +20,13 @@ pub data Question : Type 0 where
 -- a call on tables named by numbers: an add of two columns with values of some kind to table i, with the length of the lent work buffer; a merge
 -- of table j into a different table i; a question about table i
 pub data Call : Type 0 where
-  add : (i : ℕ) (kind : Kind) (keys values : List ℕ) (work : ℕ) → Call
+  add : (i : ℕ) (kind : Kind) (keys values : List ℕ) (workLen : ℕ) → Call
   merge : (i j : ℕ) → T (not (eqb i j)) → Call
   ask : (i : ℕ) → Question → Call
 
 -- the columns that a call lends hold bytes
 abbrev pub lendsBytes : Call → Bool
-lendsBytes (add i kind ks vs work) = areBytes ks && areBytes vs
+lendsBytes (add i kind ks vs workLen) = areBytes ks && areBytes vs
 lendsBytes (merge i j d) = true
 lendsBytes (ask i q) = true
 
@@ -46,11 +46,11 @@ rowsGrounds len rows = ground 11 (tooManyRows rows) ∷ ground 12 (tooManyKeys l
 
 -- document 01's conditions of an add to a table with these rows, in their order
 unfoldable pub addRowsGrounds : Kind → ℕ → List Row → List ℕ → List ℕ → ℕ → List Ground
-addRowsGrounds kind len rows ks vs work = lentGrounds kind len ks vs work ++ rowsGrounds len (rows ++ rowsOf kind ks vs)
+addRowsGrounds kind len rows ks vs workLen = lentGrounds kind len ks vs workLen ++ rowsGrounds len (rows ++ rowsOf kind ks vs)
 
 -- an accepted add gives the number of distinct section numbers
 abbrev pub addRowsOutcome : Kind → ℕ → List Row → List ℕ → List ℕ → ℕ → Outcome ℕ
-addRowsOutcome kind len rows ks vs work = outcome (addRowsGrounds kind len rows ks vs work) (length (sectionNumbers (rows ++ rowsOf kind ks vs)))
+addRowsOutcome kind len rows ks vs workLen = outcome (addRowsGrounds kind len rows ks vs workLen) (length (sectionNumbers (rows ++ rowsOf kind ks vs)))
 
 -- document 01's conditions of a merge of a table with the rows `others` into one with these rows, in their order
 unfoldable pub mergeRowsGrounds : ℕ → List Row → List Row → List Ground
@@ -85,7 +85,7 @@ extended (refused n) rows new = rows
 
 -- the ledger after one call
 unfoldable pub stepRows : (ℕ → ℕ) → Ledger → Call → Ledger
-stepRows len l (add i kind ks vs work) = setRows i (extended (addRowsOutcome kind (len i) (l .rows i) ks vs work) (l .rows i) (rowsOf kind ks vs)) l
+stepRows len l (add i kind ks vs workLen) = setRows i (extended (addRowsOutcome kind (len i) (l .rows i) ks vs workLen) (l .rows i) (rowsOf kind ks vs)) l
 stepRows len l (merge i j d) = setRows i (extended (mergeRowsOutcome (len i) (l .rows i) (l .rows j)) (l .rows i) (l .rows j)) l
 stepRows len l (ask i q) = l
 

@@ -23,9 +23,9 @@ pub record Store : Type 0 where
 pub record State : Type 0 where
   pub tables : ℕ → Store
 
--- no table has groups; start i are the bytes in table i's buffer
+-- no table has groups; initial i are the bytes in table i's buffer
 abbrev pub noGroups : (ℕ → List ℕ) → State
-noGroups start = record { tables = λ i. record { buffer = start i; groups = 0 } }
+noGroups initial = record { tables = λ i. record { buffer = initial i; groups = 0 } }
 
 -- the state with t as table i
 abbrev pub setTable : ℕ → Store → State → State
@@ -38,7 +38,7 @@ after (refused n) s g = record { buffer = s; groups = g }
 
 -- the table t after an add
 abbrev pub afterAdd : Kind → Store → List ℕ → List ℕ → ℕ → Store
-afterAdd kind t ks vs work = after (addOutcome kind (t .buffer) (t .groups) ks vs work) (addLeaves kind (t .buffer) (t .groups) ks vs work) (t .groups)
+afterAdd kind t ks vs workLen = after (addOutcome kind (t .buffer) (t .groups) ks vs workLen) (addLeaves kind (t .buffer) (t .groups) ks vs workLen) (t .groups)
 
 -- the table t after a merge of u into it
 abbrev pub afterMerge : Store → Store → Store
@@ -47,7 +47,7 @@ afterMerge t u =
 
 -- the state after one call; a question changes nothing
 unfoldable pub step : State → Call → State
-step s (add i kind ks vs work) = setTable i (afterAdd kind (s .tables i) ks vs work) s
+step s (add i kind ks vs workLen) = setTable i (afterAdd kind (s .tables i) ks vs workLen) s
 step s (merge i j d) = setTable i (afterMerge (s .tables i) (s .tables j)) s
 step s (ask i q) = s
 
@@ -79,7 +79,7 @@ askRows rows (line k) = lineIs (lineOf (sectionIf k (sectionBits k rows)))
 
 -- what a call in this state answers
 unfoldable pub answer : State → Call → Answer
-answer s (add i kind ks vs work) = groupsAre (addOutcome kind (s .tables i .buffer) (s .tables i .groups) ks vs work)
+answer s (add i kind ks vs workLen) = groupsAre (addOutcome kind (s .tables i .buffer) (s .tables i .groups) ks vs workLen)
 answer s (merge i j d) = groupsAre (mergeOutcome (s .tables i .buffer) (s .tables i .groups) (s .tables j .buffer) (s .tables j .groups))
 answer s (ask i q) = askTable (s .tables i) q
 
@@ -90,7 +90,7 @@ answers s (c ∷ cs) = answer s c ∷ answers (step s c) cs
 
 -- what a call is to answer by the ledger alone
 unfoldable pub answerRows : (ℕ → ℕ) → Ledger → Call → Answer
-answerRows len l (add i kind ks vs work) = groupsAre (addRowsOutcome kind (len i) (l .rows i) ks vs work)
+answerRows len l (add i kind ks vs workLen) = groupsAre (addRowsOutcome kind (len i) (l .rows i) ks vs workLen)
 answerRows len l (merge i j d) = groupsAre (mergeRowsOutcome (len i) (l .rows i) (l .rows j))
 answerRows len l (ask i q) = askRows (l .rows i) q
 

@@ -76,16 +76,16 @@ not-flipped : (b : Bool) → b ≡ flippedIf false b
 not-flipped true = refl
 not-flipped false = refl
 
-turned : (b : Bool) → not b ≡ flippedIf true b
-turned true = refl
-turned false = refl
+flip-true : (b : Bool) → not b ≡ flippedIf true b
+flip-true true = refl
+flip-true false = refl
 
 left-signed : (g : Bool) (n j : ℕ) → left (signed g n) j ≡ signed (flippedIf g (roundedUp n (unit j))) (restOf n (unit j))
 left-signed false n j =
     sub-signed n (closest n (unit j) * unit j) ∙ ap (λ (b : Bool). signed b (restOf n (unit j))) (not-flipped (roundedUp n (unit j)))
 left-signed true n j =
     left-neg (pos n) j ∙ ap negℤ (sub-signed n (closest n (unit j) * unit j)) ∙ neg-signed (roundedUp n (unit j)) (restOf n (unit j))
-    ∙ ap (λ (b : Bool). signed b (restOf n (unit j))) (turned (roundedUp n (unit j)))
+    ∙ ap (λ (b : Bool). signed b (restOf n (unit j))) (flip-true (roundedUp n (unit j)))
 
 -- ---- the levels from t down
 -- what z gives k levels below t, where it starts

@@ -14,7 +14,7 @@ use lib.Ieee.Digits.{size-lt, size-reaches}
 use lib.Ieee.Positive.{first-pos}
 use Rattle.limbs.specs.Limbs.{valueOf, ShiftedLeft}
 use Rattle.limbs.specs.Nearest.{isOdd, nearestBy}
-use Rattle.limbs.specs.Packed.{droppedDigits, significandOf, packed, unitsOf, leadingDigits}
+use Rattle.limbs.specs.Packed.{droppedDigits, significandOf, packed, unitsOf, mostScale, leadingDigits}
 use Rattle.limbs.proofs.Nearest.{nearest-same, nearest-whole}
 use Rattle.limbs.proofs.Leading.{value-lt, value-ge}
 
@@ -80,10 +80,10 @@ module _ (n w a b : ℕ) (e : n * 2 ^ b ≡ w * 2 ^ a) (lo : 2 ^ 159 ≤ w) (hi 
 
 -- ---- of limbs times 2^t / 2^80, shifted left until their leading digit was set
 
-pub field-lt : (t by : ℕ) → t ≤ 2080 → 27 + t - by < 2 ^ 12
+pub field-lt : (t by : ℕ) → t ≤ mostScale → 27 + t - by < 2 ^ 12
 field-lt t by h = omega arith
 
-pub sum-fits : (t by q : ℕ) → t ≤ 2080 → q ≤ 2 ^ 53 → Fits w64 ((27 + t - by) * 2 ^ 52 + q)
+pub sum-fits : (t by q : ℕ) → t ≤ mostScale → q ≤ 2 ^ 53 → Fits w64 ((27 + t - by) * 2 ^ 52 + q)
 sum-fits t by q h k = omega arith
 
 module _ (a r : List ℕ) (t by : ℕ) (n : ShiftedLeft a r by) (g : 2 ^ 39 ≤ getD r 3 0) (e : unitsOf a t * 2 ^ 80 ≡ valueOf a * 2 ^ t) where

@@ -132,8 +132,8 @@ module _ (x : ℕ) (p : 0 < x) (l : x < 2 ^ 40) where
   pub zeros-lt : zeros - 24 < 40
   zeros-lt = omega (arith, top .1)
 
-  pub room : x < 2 ^ (40 - (zeros - 24))
-  room = let q : suc (top .0) ≡ 40 - (zeros - 24) = omega (arith, top .1, top-lt) in lt-of-lt-of-le (top .3) (le-of-eq (ap (λ (k : ℕ). 2 ^ k) q))
+  pub digits-fit : x < 2 ^ (40 - (zeros - 24))
+  digits-fit = let q : suc (top .0) ≡ 40 - (zeros - 24) = omega (arith, top .1, top-lt) in lt-of-lt-of-le (top .3) (le-of-eq (ap (λ (k : ℕ). 2 ^ k) q))
 
   pub leads : 2 ^ 39 ≤ x * 2 ^ (zeros - 24)
   leads =

@@ -3,11 +3,11 @@ use Prim.Native.Nat.{ℕ, suc, _*_, _/_, _%_, compare, Ordering, Ordering·lt, O
 use mathlib.Core.Bool.{Bool, cond}
 use lib.Dec.{eqb}
 
--- the quotient q or the next number, by how twice the remainder compares with the divisor; at an exact half the next where `up` holds
+-- the quotient q or the next number, by how twice the remainder compares with the divisor; at an exact half the next where `tieUp` holds
 abbrev pub rounded : Bool → ℕ → Ordering → ℕ
-rounded up q Ordering·lt = q
-rounded up q Ordering·eq = cond up (suc q) q
-rounded up q Ordering·gt = suc q
+rounded tieUp q Ordering·lt = q
+rounded tieUp q Ordering·eq = cond tieUp (suc q) q
+rounded tieUp q Ordering·gt = suc q
 
 -- n / d to the nearest whole number; an exact half goes up where `tie` holds of the quotient
 unfoldable pub nearestBy : (ℕ → Bool) → ℕ → ℕ → ℕ

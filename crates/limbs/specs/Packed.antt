@@ -33,3 +33,7 @@ signBit s = cond s (2 ^ 63) 0
 -- limbs times 2^e / 2^80, in units
 abbrev pub unitsOf : List ℕ → ℕ → ℕ
 unitsOf a e = valueOf a * 2 ^ e / 2 ^ 80
+
+-- the largest e for which an exponent of 27 + e above 53 digits stays below 2^64
+abbrev pub mostScale : ℕ
+mostScale = 4066

@@ -6,7 +6,7 @@ ghost use lib.Dec.{eqb};
 ghost use lib.ListN.{getD};
 ghost use Rattle.limbs.specs.Limbs.{valueOf, Normal, Carried, DifferenceWithBias, withoutBias, SignedDifference, ShiftedLeft};
 ghost use Rattle.limbs.specs.Nearest.{rounded};
-ghost use Rattle.limbs.specs.Packed.{leadingDigits, packed, unitsOf};
+ghost use Rattle.limbs.specs.Packed.{leadingDigits, packed, unitsOf, mostScale};
 
 // What a limb stays below.
 pub const LIMB: u64 = 1 << 40;
@@ -69,16 +69,16 @@ pub struct SignMagnitude {
     pub negative: bool,
 }
 
-pub fn abs_diff(p: [u64; 4], q: [u64; 4]) -> SignMagnitude
+pub fn signed_difference(p: [u64; 4], q: [u64; 4]) -> SignMagnitude
     requires { ⌜ Normal p ⌝ }
     requires { ⌜ Normal q ⌝ }
     ensures { λ r. ⌜ Normal (r .limbs) ⌝ }
     ensures { λ r. ⌜ SignedDifference (r .negative) (valueOf (r .limbs)) (valueOf p) (valueOf q) ⌝ }
 {
-    let up = difference_with_bias(p, q);
-    if up[3] >= LIMB {
+    let biased = difference_with_bias(p, q);
+    if biased[3] >= LIMB {
         return SignMagnitude {
-            limbs: without_bias(up),
+            limbs: without_bias(biased),
             negative: false,
         };
     }
@@ -167,13 +167,17 @@ fn one_if(b: bool) -> u64
     if b { 1 } else { 0 }
 }
 
-// The quotient q or the next number, whichever is nearer, by its rest and half of the divisor; at an exact half the next where `up` says so, for which the
+// The quotient q or the next number, whichever is nearer, by its rest and half of the divisor; at an exact half the next where `tie_up` says so, for which the
 // rest counts one more.
-pub fn round_by(q: u64, rest: u64, half: u64, up: bool) -> u64
+pub fn round_by(q: u64, rest: u64, half: u64, tie_up: bool) -> u64
     requires { ⌜ (q < 2 ^ 63) × (rest < 2 ^ 63) ⌝ }
-    ensures { λ r. ⌜ r ≡ rounded up q (compare rest half) ⌝ }
+    ensures { λ r. ⌜ r ≡ rounded «tie_up» q (compare rest half) ⌝ }
 {
-    if rest + one_if(up) > half { q + 1 } else { q }
+    if rest + one_if(tie_up) > half {
+        q + 1
+    } else {
+        q
+    }
 }
 
 // The digits below the 53 leading ones, as a number of units of which 2^27 are a half: 27 digits, and one that is set where any lower digit is.
@@ -205,7 +209,7 @@ fn assemble(exponent: u64, digits: u64) -> u64
 // The bits, without the sign, of the double nearest to a × 2^e / 2^80 units of 2^-1074.
 pub fn nearest_bits(a: [u64; 4], e: u64) -> u64
     requires { ⌜ Normal a ⌝ }
-    requires { ⌜ (0 < valueOf a) × (e ≤ 2080) ⌝ }
+    requires { ⌜ (0 < valueOf a) × (e ≤ mostScale) ⌝ }
     requires { ⌜ unitsOf a e * 2 ^ 80 ≡ valueOf a * 2 ^ e ⌝ }
     ensures { λ r. ⌜ r ≡ packed (unitsOf a e) ⌝ }
 {
@@ -213,9 +217,9 @@ pub fn nearest_bits(a: [u64; 4], e: u64) -> u64
     let by = n.by;
     let limbs = n.limbs;
     let digits = leading_digits(limbs);
-    let up = 27 + e;
-    if by <= up {
-        return assemble(up - by, digits);
+    let unshifted = 27 + e;
+    if by <= unshifted {
+        return assemble(unshifted - by, digits);
     }
-    digits >> (by - up)
+    digits >> (by - unshifted)
 }

@@ -42,8 +42,8 @@ module _ {s₀ : List ℕ} {g : ℕ} {s′ : List ℕ} {g′ : ℕ} {s : List �
       sym (written-self s i (t .sound₁) (t .bytes)) ∙ ap (λ (x : List Section). written x s) (sym (merge-none s s′ i j h)) ∙ t .rest
 
   module _ {e : Ends} (b : Back s i s′ j e) where
-    pub room : k ≡ length (mergeSections s (e .i) s′ (e .j)) + 1
-    room = t .groups ∙ length-back b
+    pub places-left : k ≡ length (mergeSections s (e .i) s′ (e .j)) + 1
+    places-left = t .groups ∙ length-back b
 
     pub few-last : overflows (lastSection s i s′ j e) ≡ false
     few-last = both-false (anyOf overflows (mergeSections s (e .i) s′ (e .j))) (overflows (lastSection s i s′ j e)) (sym (any-back b) ∙ t .few) .1
@@ -51,7 +51,7 @@ module _ {s₀ : List ℕ} {g : ℕ} {s′ : List ℕ} {g′ : ℕ} {s : List �
     -- one section more
     module _ {r : Record} {s₁ : List ℕ} (p : r ≡ recordOf (lastSection s i s′ j e)) (q : s₁ ≡ sets s ((k - 1) * 64) (encode r)) where
       n : k - 1 ≡ length (mergeSections s (e .i) s′ (e .j))
-      n = omega (arith, room)
+      n = omega (arith, places-left)
 
       under : e .i ≤ k - 1
       under = omega (arith, n, merged-length (sections s (e .i)) (sections s′ (e .j)), length-sections s (e .i))
@@ -80,7 +80,7 @@ module _ {s₀ : List ℕ} {g : ℕ} {s′ : List ℕ} {g′ : ℕ} {s : List �
         few = ap (anyOf overflows) still ∙ both-false (anyOf overflows (mergeSections s (e .i) s′ (e .j))) (overflows (lastSection s i s′ j e)) (sym (any-back b) ∙ t .few) .0;
         rest =
             ap₂ written still put
-            ∙ written-more (mergeSections s (e .i) s′ (e .j)) (lastSection s i s′ j e) s (omega (arith, room, t .fits))
+            ∙ written-more (mergeSections s (e .i) s′ (e .j)) (lastSection s i s′ j e) s (omega (arith, places-left, t .fits))
             ∙ ap (λ (x : List Section). written x s) (sym (b .last))
             ∙ t .rest;
         long = long₁ ∙ t .long;

@@ -13,7 +13,7 @@ use borrow.Author.Tests.{le-ltb}
 use Rattle.numerals.specs.Numerals.{decimal, integer}
 
 pub record Negative (z : ℤ) : Type 0 where
-  pub turned : toZ w32 (2 ^ 32 - 1 - ofZ w32 z) ≡ pos (natAbs z - 1)
+  pub complement : toZ w32 (2 ^ 32 - 1 - ofZ w32 z) ≡ pos (natAbs z - 1)
   pub least : 1 ≤ natAbs z
   pub most : natAbs z ≤ 2 ^ 31
   pub text : integer z ≡ 0x2D ∷ decimal (natAbs z)
@@ -25,7 +25,7 @@ negative-is (negsuc n) f e =
     let p : n < 2 ^ 31 = f .sfits in
     let q : 2 ^ 32 - 1 - ofZ w32 (negsuc n) ≡ n = omega arith in
     let o : suc n - 1 ≡ n = omega arith in
-    record { turned = rw (q, o) (toZ-pos w32 n p); least = omega arith; most = omega arith; text = refl }
+    record { complement = rw (q, o) (toZ-pos w32 n p); least = omega arith; most = omega arith; text = refl }
 
 pub negative : (z : ℤ) → SFits w32 z → ltZ (toZ w32 (ofZ w32 z)) (pos 0) ≡ true → Negative z
 negative z f e = negative-is z f (rw (toZ-ofZ w32 z f) at e)

@@ -7,7 +7,7 @@ use lib.ListN.{take}
 -- where s held a text of its first `at` bytes, the first r bytes of s′ are that text and then w; r is at most k more
 pub record Continued (s : List ℕ) (at : ℕ) (w : List ℕ) (k : ℕ) (s′ : List ℕ) (r : ℕ) : Type 0 where
   pub text : take r s′ ≡ take at s ++ w
-  pub room : r ≤ at + k
+  pub growth : r ≤ at + k
 
 -- ---- the most bytes that each numeral takes
 

@@ -2,7 +2,7 @@
 use Prim.Native.Nat.{ℕ, suc, _<_}
 use mathlib.Core.Path.{_≡_, refl, sym, ap, _∙_}
 use mathlib.Core.Bool.{Bool, true, false, cond, _&&_, true≢false}
-use mathlib.Core.List.{List, [], _∷_, _++_}
+use mathlib.Core.List.{List, [], _∷_, _++_, append-nil}
 use native.Mathlib.Omega.{arith}
 use borrow.Author.Tests.{ltb-true, leb-true, eq-eqb, ne-eqb}
 use lib.Dec.{eqb, ltb, leb}
@@ -85,6 +85,10 @@ refused-first (c ∷ cs) hs x y {n} e = go (c .holds) e (refused-first cs hs x y
         → cond b (refused (c .refusal)) (outcome (cs ++ hs) y) ≡ refused n
     go true q ih = ap refused cc
     go false q ih = ih q
+
+-- and whatever the values would have been
+pub refused-alike : {A B : Type 0} (gs : List Ground) (x : A) (y : B) {n : ℕ} → outcome gs x ≡ refused n → outcome gs y ≡ refused n
+refused-alike gs x y e = rw (append-nil gs) at (refused-first gs [] x y e)
 
 -- where none of the first holds, the further ones decide
 pub accepted-first : {A B : Type 0} (gs hs : List Ground) (x : A) (y : B) {z : A} → outcome gs x ≡ accepted z → outcome (gs ++ hs) y ≡ outcome hs y

@@ -1,40 +1,39 @@
 -- A line in the buffer, a section's line by its finished line, and the sections of a sound table in their places. The idea: each piece continues the text
 -- before it, so that a line is the pieces one after the other.
 use Prim.Native.Nat.{ℕ, suc, _+_, _*_, _<_, _≤_}
-use mathlib.Core.Path.{_≡_, refl, sym, ap, _∙_}
-use mathlib.Core.Bool.{Bool, true, false, cond}
+use mathlib.Core.Path.{_≡_, sym, ap, _∙_}
 use mathlib.Core.List.{List, [], _∷_, _++_, append-assoc, append-nil}
 use mathlib.Core.Option.{some}
 use native.Mathlib.Omega.{arith}
 use lib.Dec.{T}
+use lib.IntN.{ℤ}
 use lib.ListN.{length, getD, take, List·getD-map}
 use lib.Seq.{take-suc}
 use lib.Ieee.Scale.{finite}
 use Rattle.codec.specs.Cells.{image}
 use Rattle.codec.proofs.Cells.{getD-cells}
-use Rattle.refusal.specs.Outcome.{accepted, refused}
+use Rattle.refusal.specs.Outcome.{Outcome, accepted, refused}
+use Rattle.refusal.proofs.Outcomes.{refused-alike}
 use Rattle.record.specs.Layout.{decode, recordAt, records}
-use Rattle.record.specs.Section.{Section, kept, meaning, sections}
+use Rattle.record.specs.Section.{Section, meaning, sections}
 use Rattle.record.specs.Sound.{sound}
 use Rattle.record.proofs.Laws.{decode-part}
 use Rattle.record.proofs.Sound.{sound-parts}
 use Rattle.table.proofs.State.{length-sections}
-use Rattle.finish.specs.Sum.{tooLarge, nearestDouble}
-use Rattle.finish.specs.Figure.{beyond}
-use Rattle.finish.specs.Finish.{sumOf, figureFor, lineOf, lineFor}
+use Rattle.finish.specs.Finish.{sumOf, figureOf, figureFor, figureGrounds, lineOf, lineFor}
 use Rattle.finish.specs.declared.FinishedLine.{FinishedLine}
-use Rattle.finish.proofs.Outcomes.{never, line-given}
+use Rattle.finish.proofs.Outcomes.{line-given}
 use Rattle.numerals.specs.Numerals.{decimal}
 use Rattle.numerals.specs.Steps.{Continued}
 use Rattle.numerals.proofs.Texts.{then-ended}
 use Rattle.report.specs.Text.{space, lineFeed, lastFields, lineWith, lineText}
-use Rattle.report.specs.Steps.{startSize}
+use Rattle.report.specs.Steps.{keyAndCountSize}
 
 -- ---- a line in the buffer
 
 -- section and row count, then what follows them with its line feed
-pub line-printed : {s s₁ s₂ : List ℕ} {at k r₁ r₂ : ℕ} (key count : ℕ) (last : List ℕ) → Continued s at (decimal key ++ space ++ decimal count ++ space) startSize s₁ r₁ → Continued s₁ r₁ (last ++ lineFeed) k s₂ r₂
-    → Continued s at (lineWith key count last) (startSize + k) s₂ r₂
+pub line-printed : {s s₁ s₂ : List ℕ} {at k r₁ r₂ : ℕ} (key count : ℕ) (last : List ℕ) → Continued s at (decimal key ++ space ++ decimal count ++ space) keyAndCountSize s₁ r₁ → Continued s₁ r₁ (last ++ lineFeed) k s₂ r₂
+    → Continued s at (lineWith key count last) (keyAndCountSize + k) s₂ r₂
 unfolding lineWith
 line-printed key count last start fields = then-ended last lineFeed start fields
 
@@ -49,17 +48,13 @@ finished s l e =
     let g = line-given s l (sym e) in
     (g .finite-sum, rw (← g .is, g .small, g .within))
 
+-- where a line is refused, its figure is refused with the same number
 pub unfinished : (s : Section) (n : ℕ) → refused n ≡ lineOf (some s)
-    → lineWith (s .key) (s .count) (lastFields (sumOf (some s)) (refused 15)) ≡ lineText s
-unfolding lineText lastFields
-unfinished s n e = by (tooLarge (kept s)) (beyond (figureFor s)) e
-  where
-    by : (a b : Bool) → refused n ≡ cond a (refused 14) (cond b (refused 15) (accepted (lineFor s)))
-        → lineWith (s .key) (s .count) (lastFields (cond a (refused 14) (accepted (nearestDouble (kept s)))) (refused 15))
-        ≡ lineWith (s .key) (s .count) (lastFields (cond a (refused 14) (accepted (nearestDouble (kept s)))) (cond a (refused 14) (cond b (refused 15) (accepted (figureFor s)))))
-    by true b e = refl
-    by false true e = refl
-    by false false e = never (cc)
+    → lineWith (s .key) (s .count) (lastFields (sumOf (some s)) (refused n)) ≡ lineText s
+unfolding lineText
+unfinished s n e =
+    let q : figureOf (some s) ≡ refused n = refused-alike (figureGrounds s) (lineFor s) (figureFor s) (sym e) in
+    ap (λ (f : Outcome ℤ). lineWith (s .key) (s .count) (lastFields (sumOf (some s)) f)) (sym q)
 
 -- ---- a section in its place
 

@@ -1,28 +1,27 @@
 -- The report of a file is at most 4,096 bytes long: its head line has 29, and each of at most 64 lines at most 58.
 use Prim.Native.Nat.{ℕ, _-_, _*_, _^_, _<_, _≤_}
 use mathlib.Core.Path.{_≡_, refl}
-use mathlib.Core.Bool.{Bool, true, false, cond}
+use mathlib.Core.Bool.{false}
 use mathlib.Core.List.{List, [], _∷_, _++_}
 use mathlib.Core.Option.{some}
 use native.Mathlib.Omega.{arith}
 use borrow.Author.Tests.{ltb-false}
 use lib.IntN.{ℤ, natAbs}
-use lib.Ieee.{binary64, toBits}
+use lib.Ieee.{Float, binary64, toBits}
 use lib.ListN.{length, drop, length-append}
 use Rattle.codec.specs.Cells.{image}
 use Rattle.codec.proofs.Laws.{AreBytes, take-bytes, drop-bytes}
 use Rattle.refusal.specs.Outcome.{Outcome, accepted, refused}
-use Rattle.refusal.proofs.Outcomes.{refused-below}
+use Rattle.refusal.proofs.Outcomes.{accepted-not, accepted-value, refused-below}
 use Rattle.lists.proofs.All.{All}
 use Rattle.columns.specs.declared.Kind.the-variants.{Double}
 use Rattle.patch.specs.File.{rowCount, keyDistance, readGrounds, readOutcome, keyColumn, valueColumn}
 use Rattle.patch.proofs.File.{key-column}
-use Rattle.record.specs.Section.{Section, kept}
+use Rattle.record.specs.Section.{Section}
 use Rattle.table.specs.Calls.{columnGrounds, addGrounds, addSections, addOutcome}
 use Rattle.table.proofs.Bytes.{Storable}
-use Rattle.finish.specs.Sum.{nearestDouble, tooLarge}
 use Rattle.finish.specs.Figure.{beyond}
-use Rattle.finish.specs.Finish.{sumOf, figureOf, figureFor}
+use Rattle.finish.specs.Finish.{sumFor, figureFor, sumGrounds, figureGrounds, sumOf, figureOf}
 use Rattle.numerals.specs.Numerals.{decimal, integer, hexadecimal}
 use Rattle.numerals.specs.Steps.{integerSize}
 use Rattle.numerals.proofs.Size.{length-decimal, length-integer, length-hexadecimal}
@@ -39,22 +38,23 @@ length-refusal : (n : ℕ) → n < 2 ^ 32 → length (refusalText n) ≤ refusal
 unfolding refusalText
 length-refusal n h = omega (arith, length-decimal n h)
 
+-- an accepted figure is in range
+figure-in-range : (s : Section) (z : ℤ) → figureOf (some s) ≡ accepted z → beyond z ≡ false
+figure-in-range s z e = rw (← accepted-value (figureGrounds s) (figureFor s) e) (accepted-not 15 (figureGrounds s) (figureFor s) e)
+
 length-last : (s : Section) → length (lastFields (sumOf (some s)) (figureOf (some s))) ≤ refusedFieldsSize
 unfolding lastFields figureField
-length-last s = by (tooLarge (kept s)) (beyond (figureFor s)) refl
+length-last s = by (sumOf (some s)) (figureOf (some s)) refl refl
   where
-    bits : List ℕ
-    bits = hexadecimal (toBits binary64 (nearestDouble (kept s)))
+    after-bits : (x : Float) (l : List ℕ) → length l ≤ refusalSize → length (hexadecimal (toBits binary64 x) ++ space ++ l) ≤ refusedFieldsSize
+    after-bits x l h =
+        let bits = hexadecimal (toBits binary64 x) in
+        omega (arith, length-append (bits ++ space) l, length-append bits space, length-hexadecimal (toBits binary64 x))
 
-    after-bits : (l : List ℕ) → length l ≤ refusalSize → length (bits ++ space ++ l) ≤ refusedFieldsSize
-    after-bits l h =
-        omega (arith, length-append (bits ++ space) l, length-append bits space, length-hexadecimal (toBits binary64 (nearestDouble (kept s))))
-
-    by : (a b : Bool) → beyond (figureFor s) ≡ b
-        → length (lastFields (cond a (refused 14) (accepted (nearestDouble (kept s)))) (cond a (refused 14) (cond b (refused 15) (accepted (figureFor s))))) ≤ refusedFieldsSize
-    by true b e = omega (arith, length-refusal 14 (omega arith))
-    by false true e = after-bits (refusalText 15) (length-refusal 15 (omega arith))
-    by false false e = after-bits (integer (figureFor s)) (omega (arith, length-figure (figureFor s) e))
+    by : (o : Outcome Float) (f : Outcome ℤ) → sumOf (some s) ≡ o → figureOf (some s) ≡ f → length (lastFields o f) ≤ refusedFieldsSize
+    by (refused n) f d e = omega (arith, length-refusal n (omega (arith, refused-below 100 (sumGrounds s) (sumFor s) refl d)))
+    by (accepted x) (refused n) d e = after-bits x (refusalText n) (length-refusal n (omega (arith, refused-below 100 (figureGrounds s) (figureFor s) refl e)))
+    by (accepted x) (accepted z) d e = after-bits x (integer z) (omega (arith, length-figure z (figure-in-range s z e)))
 
 length-line : (s : Section) → Storable s → length (lineText s) ≤ longestLine
 unfolding lineText lineWith

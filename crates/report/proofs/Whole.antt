@@ -48,7 +48,7 @@ file-refused f n e = ap (λ o. fileText o f) e
 module _ {s s′ w : List ℕ} {k r : ℕ} (p : Continued s 0 w k s′ r) (fits : k ≤ length s′) where
   -- a text that starts at the front is all that is there
   pub text-length : length w ≡ r
-  text-length = let h : r ≤ length s′ = omega (arith, p .room) in ap length (sym (p .text)) ∙ length-take-le r s′ h
+  text-length = let h : r ≤ length s′ = omega (arith, p .growth) in ap length (sym (p .text)) ∙ length-take-le r s′ h
 
   module _ (out : List ℕ) where
     pub does-not-fit : length out < r → (refused 16 ≡ printOutcome out w) × (out ≡ printLeaves out w)

@@ -7,12 +7,12 @@ abbrev pub refusalSize : ℕ
 refusalSize = 8 + decimalSize
 
 -- section and row count, a space after each
-abbrev pub startSize : ℕ
-startSize = decimalSize + 1 + decimalSize + 1
+abbrev pub keyAndCountSize : ℕ
+keyAndCountSize = decimalSize + 1 + decimalSize + 1
 
 -- a line with both last fields
 abbrev pub lineSize : ℕ
-lineSize = startSize + bitsSize + 1 + integerSize + 1
+lineSize = keyAndCountSize + bitsSize + 1 + integerSize + 1
 
 -- the sum and a refusal in place of the mill figure: no last fields are longer
 abbrev pub refusedFieldsSize : ℕ
@@ -20,7 +20,7 @@ refusedFieldsSize = bitsSize + 1 + refusalSize
 
 -- a line with them: no line is longer
 abbrev pub longestLine : ℕ
-longestLine = startSize + refusedFieldsSize + 1
+longestLine = keyAndCountSize + refusedFieldsSize + 1
 
 -- the whole text
 abbrev pub textSize : ℕ

@@ -17,7 +17,7 @@ ghost use Rattle.numerals.specs.Steps.{Continued, bitsSize};
 ghost use Rattle.columns.specs.declared.Kind.the-variants.{Double};
 ghost use Rattle.report.specs.Text.{tableGroups, space, lineFeed, refusalText, lastFields, lineWith, lineText, headLine, columnsText, reportText};
 ghost use Rattle.report.specs.Answer.{printedAnswer, printOutcome, printLeaves};
-ghost use Rattle.report.specs.Steps.{refusalSize, startSize, lineSize, refusedFieldsSize, longestLine, textSize};
+ghost use Rattle.report.specs.Steps.{refusalSize, keyAndCountSize, lineSize, refusedFieldsSize, longestLine, textSize};
 use finish::FinishedLine;
 use finish::LineAnswer;
 use finish::SectionSum;
@@ -47,9 +47,9 @@ fn print_refusal(text: &mut [u8], at: usize, n: u32) -> usize
 }
 
 // Section and row count, a space after each.
-fn print_start(text: &mut [u8], at: usize, key: u32, count: u32) -> usize
-    requires { ⌜ at + startSize ≤ length (now text) ⌝ }
-    ensures { λ r. ⌜ Continued (now (text .entry)) at (decimal key ++ space ++ decimal count ++ space) startSize (now (text .exit)) r ⌝ }
+fn print_key_and_count(text: &mut [u8], at: usize, key: u32, count: u32) -> usize
+    requires { ⌜ at + keyAndCountSize ≤ length (now text) ⌝ }
+    ensures { λ r. ⌜ Continued (now (text .entry)) at (decimal key ++ space ++ decimal count ++ space) keyAndCountSize (now (text .exit)) r ⌝ }
 {
     let next = numerals::print_decimal_field(text, at, key, b' ');
     numerals::print_decimal_field(text, next, count, b' ')
@@ -61,21 +61,21 @@ fn print_line(text: &mut [u8], at: usize, line: FinishedLine) -> usize
     requires { ⌜ T (finite (line .sum)) ⌝ }
     ensures { λ r. ⌜ Continued (now (text .entry)) at (lineWith (line .key) (line .count) (lastFields (accepted (line .sum)) (accepted (line .figure)))) lineSize (now (text .exit)) r ⌝ }
 {
-    let a = print_start(text, at, line.key, line.count);
+    let a = print_key_and_count(text, at, line.key, line.count);
     let b = numerals::print_bits_field(text, a, f64::to_bits(line.sum), b' ');
     numerals::print_integer_field(text, b, line.figure, b'\n')
 }
 
-// The end of a line that is not finished: the sum and a refused figure, or a refused sum in place of both, and a line feed.
-fn print_refused_fields(text: &mut [u8], at: usize, sum: SectionSum) -> usize
+// The end of a line that is not finished: the sum and the figure's refusal n, or a refused sum in place of both, and a line feed.
+fn print_refused_fields(text: &mut [u8], at: usize, sum: SectionSum, n: u32) -> usize
     requires { ⌜ at + refusedFieldsSize + 1 ≤ length (now text) ⌝ }
     requires { ⌜ FiniteSum sum ⌝ }
-    ensures { λ r. ⌜ Continued (now (text .entry)) at (lastFields (sumAnswer sum) (refused 15) ++ lineFeed) (refusedFieldsSize + 1) (now (text .exit)) r ⌝ }
+    ensures { λ r. ⌜ Continued (now (text .entry)) at (lastFields (sumAnswer sum) (refused n) ++ lineFeed) (refusedFieldsSize + 1) (now (text .exit)) r ⌝ }
 {
     match sum {
         SectionSum::Finite(x) => {
             let next = numerals::print_bits_field(text, at, f64::to_bits(x), b' ');
-            print_refusal(text, next, 15)
+            print_refusal(text, next, n)
         }
         SectionSum::TooLarge => print_refusal(text, at, 14),
         SectionSum::Absent => print_refusal(text, at, 13),
@@ -83,14 +83,21 @@ fn print_refused_fields(text: &mut [u8], at: usize, sum: SectionSum) -> usize
     }
 }
 
-// The line of a section that has no finished line.
-fn print_unfinished(text: &mut [u8], at: usize, key: u32, count: u32, sum: SectionSum) -> usize
+// The line of a section whose finished line is refused with n.
+fn print_unfinished(
+    text: &mut [u8],
+    at: usize,
+    key: u32,
+    count: u32,
+    sum: SectionSum,
+    n: u32,
+) -> usize
     requires { ⌜ at + longestLine ≤ length (now text) ⌝ }
     requires { ⌜ FiniteSum sum ⌝ }
-    ensures { λ r. ⌜ Continued (now (text .entry)) at (lineWith key count (lastFields (sumAnswer sum) (refused 15))) longestLine (now (text .exit)) r ⌝ }
+    ensures { λ r. ⌜ Continued (now (text .entry)) at (lineWith key count (lastFields (sumAnswer sum) (refused n))) longestLine (now (text .exit)) r ⌝ }
 {
-    let next = print_start(text, at, key, count);
-    print_refused_fields(text, next, sum)
+    let next = print_key_and_count(text, at, key, count);
+    print_refused_fields(text, next, sum, n)
 }
 
 // The line of a sound record's section.
@@ -101,9 +108,14 @@ fn print_section(text: &mut [u8], at: usize, r: Record) -> usize
 {
     match finish::record_line(r) {
         LineAnswer::Line(line) => print_line(text, at, line),
-        LineAnswer::Refused(_) => {
-            print_unfinished(text, at, r.key, r.count, finish::record_sum(r))
-        }
+        LineAnswer::Refused(why) => print_unfinished(
+            text,
+            at,
+            r.key,
+            r.count,
+            finish::record_sum(r),
+            refusal::number_of(why),
+        ),
     }
 }
 

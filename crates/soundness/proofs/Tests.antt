@@ -13,7 +13,7 @@ use lib.Seq.{drop-cons}
 use mir.Syntax.{w64}
 use mir.Val.{toZ, ofZ, SFits}
 use Rattle.level.specs.Carry.{carryBase}
-use Rattle.codec.proofs.Laws.{sign-known, turned, low-half}
+use Rattle.codec.proofs.Laws.{sign-known, complement-low, low-half}
 use Rattle.record.specs.declared.Record.{Record}
 use Rattle.record.specs.Keys.{rising}
 use Rattle.record.specs.Sound.{soundRecord, soundRecords}
@@ -39,7 +39,7 @@ pub size-negative : (z : ℤ) (s : ℕ) → SFits w64 z → s < carryBase → lt
     → natAbs (z *ℤ pos (carryBase) +ℤ pos s) ≡ natAbs (toZ w64 (2 ^ 64 - 1 - ofZ w64 z)) * carryBase + (carryBase - s)
 size-negative (pos n) s f h e = absurd (omega (arith, sign-known (pos n) f true e))
 size-negative (negsuc k) s f h e =
-    omega (arith, size-below (suc k * carryBase) s (omega arith), turned (negsuc k) f e .1)
+    omega (arith, size-below (suc k * carryBase) s (omega arith), complement-low (negsuc k) f e .1)
 
 pub size-positive : (z : ℤ) (s : ℕ) → SFits w64 z → ltZ (toZ w64 (ofZ w64 z)) (pos 0) ≡ false
     → natAbs (z *ℤ pos (carryBase) +ℤ pos s) ≡ natAbs (toZ w64 (ofZ w64 z)) * carryBase + s

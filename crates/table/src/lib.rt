@@ -38,14 +38,14 @@ pub fn check_columns(
     keys: &[u8],
     values: &[u8],
     kind: Kind,
-    work: usize,
+    work_len: usize,
 ) -> ColumnCheck
-    ensures { λ r. ⌜ checkAnswer r ≡ columnOutcome kind (now (table .entry)) g (now (keys .entry)) (now (values .entry)) work ⌝ }
+    ensures { λ r. ⌜ checkAnswer r ≡ columnOutcome kind (now (table .entry)) g (now (keys .entry)) (now (values .entry)) «work_len» ⌝ }
 {
     if !soundness::is_sound(table, g) {
         return ColumnCheck::Refused(Refusal::TableNotSound);
     }
-    if work < table.len() {
+    if work_len < table.len() {
         return ColumnCheck::Refused(Refusal::WorkTooShort);
     }
     if !columns::columns_fit(keys, values, kind) {

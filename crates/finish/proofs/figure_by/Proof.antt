@@ -6,11 +6,11 @@ use borrow.Author.Needs.{needs}
 use Rattle.finish.proofs.figure_by.Statement.{statement}
 use Rattle.finish.proofs.figure_by.Tie as tie
 
-figure-of-requires : tie.Need-figure-of-requires
-figure-of-requires c κs = subst FiniteSum (c .before .sum .given .1) (c .before .before .before .pre)
+mill-figure-requires : tie.Need-mill-figure-requires
+mill-figure-requires c κs = subst FiniteSum (c .before .sum .given .1) (c .before .before .before .pre)
 
 returns : tie.Need-returns
-returns c = c .figure-of .ensures ∙ sym (ap (λ (a : SectionSum). figureBy (sumAnswer a)) (c .before .before .sum .given .1))
+returns c = c .mill-figure .ensures ∙ sym (ap (λ (a : SectionSum). figureBy (sumAnswer a)) (c .before .before .sum .given .1))
 
 returns-2 : tie.Need-returns-2
 returns-2 c =
@@ -27,5 +27,5 @@ returns-4 c =
 pub figure-by-spec : {M : Type 1} → statement M
 figure-by-spec =
     tie.close
-    (tie.spec (λ c. search needs) figure-of-requires (λ c. search needs) (λ c. search needs) (λ c. search needs) returns returns-2 returns-3
+    (tie.spec (λ c. search needs) mill-figure-requires (λ c. search needs) (λ c. search needs) (λ c. search needs) returns returns-2 returns-3
     returns-4)

@@ -6,13 +6,13 @@ use borrow.Author.Needs.{needs}
 use Rattle.finish.proofs.line_by.Statement.{statement}
 use Rattle.finish.proofs.line_by.Tie as tie
 
-line-of-requires : tie.Need-line-of-requires
-line-of-requires c κs = subst FiniteSum (c .before .sum .given .1) (c .before .before .before .pre)
+line-of-double-requires : tie.Need-line-of-double-requires
+line-of-double-requires c κs = subst FiniteSum (c .before .sum .given .1) (c .before .before .before .pre)
 
 returns : tie.Need-returns
 returns c =
     let a = c .before .before .before .before .args in
-    c .line-of .ensures ∙ sym (ap (λ (t : SectionSum). lineBy (a .key) (a .count) (sumAnswer t)) (c .before .before .sum .given .1))
+    c .line-of-double .ensures ∙ sym (ap (λ (t : SectionSum). lineBy (a .key) (a .count) (sumAnswer t)) (c .before .before .sum .given .1))
 
 returns-2 : tie.Need-returns-2
 returns-2 c =
@@ -32,5 +32,5 @@ returns-4 c =
 pub line-by-spec : {M : Type 1} → statement M
 line-by-spec =
     tie.close
-    (tie.spec (λ c. search needs) line-of-requires (λ c. search needs) (λ c. search needs) (λ c. search needs) returns returns-2 returns-3
+    (tie.spec (λ c. search needs) line-of-double-requires (λ c. search needs) (λ c. search needs) (λ c. search needs) returns returns-2 returns-3
     returns-4)

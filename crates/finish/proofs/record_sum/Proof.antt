@@ -1,8 +1,9 @@
 -- The distance of the raised totals from their raises is the size of the kept value with its sign; its bits are the sum's.
 use mathlib.Core.Path.{_≡_, sym, ap, _∙_}
 use mathlib.Core.Bool.{Bool, not}
+use native.Mathlib.Omega.{arith}
 use Prim.Native.Nat.{ℕ, _*_, _^_, _<_}
-use native.Mathlib.Nat.{mul-le-mul-left, pos-of-ne-zero}
+use native.Mathlib.Nat.{pos-of-ne-zero}
 use borrow.Author.Tests.{eqb-true, eqb-false}
 use lib.IntN.{ℤ, natAbs}
 use lib.Signed.{nonNeg}
@@ -22,14 +23,14 @@ few : (c : tie.Start) → c .args .r .count < 2 ^ 32
 few c = search needs
 
 -- the kept value, and what the limbs say of its size and sign
-abbrev value : tie.After-abs-diff → ℤ
+abbrev value : tie.After-signed-difference → ℤ
 value c = kept (meaning (c .before .before .before .args .r))
 
-sized : (c : tie.After-abs-diff)
-    → (natAbs (value c) * 2 ^ 80 ≡ valueOf (c .abs-diff .result .limbs) * 2 ^ (40 * c .before .before .before .args .r .top)) × (not (nonNeg (value c)) ≡ c .abs-diff .result .negative)
+sized : (c : tie.After-signed-difference)
+    → (natAbs (value c) * 2 ^ 80 ≡ valueOf (c .signed-difference .result .limbs) * 2 ^ (40 * c .before .before .before .args .r .top)) × (not (nonNeg (value c)) ≡ c .signed-difference .result .negative)
 sized c =
     let s = c .before .before .before in
-    kept-size (s .args .r) (valueOf (c .abs-diff .result .limbs)) _ _ (c .abs-diff .result .negative) (few s) (s .pre) (c .before .before .raised-limbs .ensures .same) (c .before .raise .ensures .same) (c .abs-diff .ensures .1)
+    kept-size (s .args .r) (valueOf (c .signed-difference .result .limbs)) _ _ (c .signed-difference .result .negative) (few s) (s .pre) (c .before .before .raised-limbs .ensures .same) (c .before .raise .ensures .same) (c .signed-difference .ensures .1)
 
 raised-limbs-requires : tie.Need-raised-limbs-requires
 raised-limbs-requires c κs =
@@ -40,21 +41,21 @@ raised-limbs-requires c κs =
 returns : tie.Need-returns
 returns c =
     let d = c .before .before .before in
-    let v = valueOf (d .abs-diff .result .limbs) in
+    let v = valueOf (d .signed-difference .result .limbs) in
     let k = sized d in
     let e : v ≡ 0 = eqb-true v 0 (sym (c .before .is-zero .ensures) ∙ c .if1 .taken) in
-    let n = no-sign v (d .abs-diff .result .negative) _ _ e (d .abs-diff .ensures .1) in
+    let n = no-sign v (d .signed-difference .result .negative) _ _ e (d .signed-difference .ensures .1) in
     sum-of-zero (value d) (no-size (natAbs (value d)) v _ (k .0) e) (k .1 ∙ n)
 
 nearest-bits-requires : tie.Need-nearest-bits-requires
 nearest-bits-requires c κs =
     let d = c .before .before .before .before in
     let s = d .before .before .before in
-    let v = valueOf (d .abs-diff .result .limbs) in
+    let v = valueOf (d .signed-difference .result .limbs) in
     let k = sized d in (
-      d .abs-diff .ensures .0,
+      d .signed-difference .ensures .0,
       (
-        (pos-of-ne-zero (eqb-false v 0 (sym (c .before .before .is-zero .ensures) ∙ c .before .if1 .left)), mul-le-mul-left 40 (sound-record-parts (s .args .r) (s .pre) .top)),
+        (pos-of-ne-zero (eqb-false v 0 (sym (c .before .before .is-zero .ensures) ∙ c .before .if1 .left)), omega (arith, sound-record-parts (s .args .r) (s .pre) .top)),
         ap (λ (x : ℕ). x * 2 ^ 80) (units-exact (natAbs (value d)) v _ (k .0)) ∙ k .0,
       ),
     )
@@ -63,9 +64,9 @@ returns-2 : tie.Need-returns-2
 returns-2 c =
     let d = c .before .before .before .before .before .before in
     let k = sized d in
-    let e : c .sum-of-bits .result ≡ sumOfBits (c .before .nearest-bits .result) (d .abs-diff .result .negative) = c .sum-of-bits .ensures in
+    let e : c .sum-of-bits .result ≡ sumOfBits (c .before .nearest-bits .result) (d .signed-difference .result .negative) = c .sum-of-bits .ensures in
     e
-    ∙ ap (λ (b : ℕ). sumOfBits b (d .abs-diff .result .negative)) (c .before .nearest-bits .ensures ∙ ap packed (units-exact (natAbs (value d)) (valueOf (d .abs-diff .result .limbs)) _ (k .0)))
+    ∙ ap (λ (b : ℕ). sumOfBits b (d .signed-difference .result .negative)) (c .before .nearest-bits .ensures ∙ ap packed (units-exact (natAbs (value d)) (valueOf (d .signed-difference .result .limbs)) _ (k .0)))
     ∙ ap (λ (s : Bool). sumOfBits (packed (natAbs (value d))) s) (sym (k .1))
     ∙ sum-of-kept (value d)
 

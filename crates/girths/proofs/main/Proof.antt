@@ -3,7 +3,7 @@ use mathlib.Core.Path.{sym, subst}
 use native.Mathlib.Omega.{arith}
 use lib.ListN.{length}
 use lib.Seq.{length-take-le}
-use Rattle.girths.specs.Input.{AtMost}
+use Rattle.girths.specs.Input.{GaveAtMost}
 use borrow.Author.Needs.{needs}
 use Rattle.girths.proofs.main.Statement.{statement}
 use Rattle.girths.proofs.main.Tie as tie
@@ -11,7 +11,7 @@ use Rattle.girths.proofs.main.Tie as tie
 fits : (d : tie.After-n) → d .n .given .0 .0 ≤ length (d .before .before .before .read-all .last .0)
 fits d =
     let r = d .before .before .before .read-all in
-    let h : d .n .given .0 .0 ≤ 65537 = subst (AtMost 65537) (d .n .given .1) (r .ensures) in
+    let h : d .n .given .0 .0 ≤ 65537 = subst (GaveAtMost 65537) (d .n .given .1) (r .ensures) in
     omega (arith, r .kept .0)
 
 array-share-prefix-buffer : tie.Need-array-share-prefix-buffer

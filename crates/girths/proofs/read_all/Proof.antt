@@ -4,7 +4,7 @@ use mathlib.Core.Path.{_≡_, refl, subst, _∙_}
 use native.Mathlib.Omega.{arith}
 use borrow.Author.Needs.{needs}
 use lib.ListN.{length}
-use Rattle.girths.specs.Input.{AtMost}
+use Rattle.girths.specs.Input.{GaveAtMost}
 use Rattle.girths.proofs.read_all.Statement.{statement}
 use Rattle.girths.proofs.read_all.Tie as tie
 
@@ -15,7 +15,7 @@ abbrev μ-loop : tie.MeasureT-loop
 μ-loop buffer₀ done₀ buffer done = length buffer - done
 
 read : (d : tie.After-n Inv-loop μ-loop) → d .n .given .0 .0 ≤ length (d .before .before .before .before .before .before .before .loop .buffer) - d .before .before .before .before .before .before .before .loop .done
-read d = subst (AtMost _) (d .n .given .1) (d .before .before .before .before .read-more .ensures .0)
+read d = subst (GaveAtMost _) (d .n .given .1) (d .before .before .before .before .read-more .ensures .0)
 
 loop-holds : tie.Need-loop-holds Inv-loop μ-loop
 loop-holds c = (omega arith, refl)

@@ -21,8 +21,8 @@ module _ (x y p o : ℤ) (n : ℕ) (hx : natAbs x < 2 ^ 61) (hy : natAbs y < 2 ^
   first-small : natAbs p < 2 ^ 62
   first-small = omega (arith, natAbs-+ℤ x y, ap natAbs first)
 
-  room : natAbs (toZ w64 (ofZ w64 p)) + natAbs (toZ w64 (ofZ w64 o)) < 2 ^ 63
-  room = let k : natAbs o < 2 ^ 60 = omega (arith, ap natAbs eo) in rw (back p (omega (arith, first-small)), back o (omega arith)) (omega (arith, first-small))
+  carries-fit : natAbs (toZ w64 (ofZ w64 p)) + natAbs (toZ w64 (ofZ w64 o)) < 2 ^ 63
+  carries-fit = let k : natAbs o < 2 ^ 60 = omega (arith, ap natAbs eo) in rw (back p (omega (arith, first-small)), back o (omega arith)) (omega (arith, first-small))
 
   second : toZ w64 (ofZ w64 p) +ℤ toZ w64 (ofZ w64 o) ≡ x +ℤ y +ℤ pos n
   second = let k : natAbs o < 2 ^ 60 = omega (arith, ap natAbs eo) in ap₂ _+ℤ_ (back p (omega (arith, first-small)) ∙ first) (back o (omega arith) ∙ eo)
@@ -47,7 +47,7 @@ returns c =
 plus-requires-2 : tie.Need-plus-requires-2
 plus-requires-2 c κs =
     let s = c .before .before .before .before .before .before .before in
-    room (s .args .a .carry) (s .args .b .carry) (c .plus .result) (c .before .before .before .before .with-sign .result) ((s .args .a .residue + s .args .b .residue) / carryBase)
+    carries-fit (s .args .a .carry) (s .args .b .carry) (c .plus .result) (c .before .before .before .before .with-sign .result) ((s .args .a .residue + s .args .b .residue) / carryBase)
     (s .pre .2) (s .pre .3) (c .plus .ensures) (c .before .before .before .before .with-sign .ensures) (omega arith)
 
 pub add-totals-spec : {M : Type 1} → statement M

@@ -1,6 +1,6 @@
 use native.Mathlib.Nat.{le-trans}
 use lib.ListN.{getD}
-use Rattle.limbs.proofs.Shift.{zeros-fit, zeros-ge, zeros-lt, room, leads, by-fits, by-lt, shifted-on}
+use Rattle.limbs.proofs.Shift.{zeros-fit, zeros-ge, zeros-lt, digits-fit, leads, by-fits, by-lt, shifted-on}
 use borrow.Author.Needs.{needs}
 use Rattle.limbs.proofs.normalise.Statement.{statement}
 use Rattle.limbs.proofs.normalise.Tie as tie
@@ -15,7 +15,7 @@ shift-digits-requires : tie.Need-shift-digits-requires
 shift-digits-requires c κs =
     let s = c .before .shift-limbs in
     let x = getD (s .result .limbs) 3 0 in
-    (s .ensures .0 .normal, (zeros-lt x (s .ensures .1 .0) (s .ensures .0 .normal .limb3), room x (s .ensures .1 .0) (s .ensures .0 .normal .limb3)))
+    (s .ensures .0 .normal, (zeros-lt x (s .ensures .1 .0) (s .ensures .0 .normal .limb3), digits-fit x (s .ensures .1 .0) (s .ensures .0 .normal .limb3)))
 
 add-t7 : tie.Need-add-t7
 add-t7 c = let s = c .before .before .before .shift-limbs in by-fits (getD (s .result .limbs) 3 0) (s .ensures .1 .0) (s .ensures .0 .normal .limb3) (s .result .by) (s .ensures .1 .1)

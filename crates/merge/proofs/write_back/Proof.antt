@@ -2,7 +2,7 @@
 use Prim.Native.Nat.{_+_}
 use mathlib.Core.Path.{refl}
 use native.Mathlib.Omega.{arith}
-use Rattle.merge.proofs.Writing.{Unwritten, room, few-last, left-less, finished}
+use Rattle.merge.proofs.Writing.{Unwritten, places-left, few-last, left-less, finished}
 use Rattle.merge.proofs.write_back.Statement.{statement}
 use Rattle.merge.proofs.write_back.Tie as tie
 
@@ -36,7 +36,7 @@ last-record-requires c κs =
     (b .within, (v .sound₁, (v .sound₂, few-last v b)))
 
 sub-k : tie.Need-sub-k Inv-loop μ-loop
-sub-k c = omega (arith, room (c .before .before .before .before .before .loop .inv) (c .before .before .previous .ensures))
+sub-k c = omega (arith, places-left (c .before .before .before .before .before .loop .inv) (c .before .before .previous .ensures))
 
 loop-again : tie.Need-loop-again Inv-loop μ-loop
 loop-again c =
@@ -46,7 +46,7 @@ loop-again c =
 put-requires : tie.Need-put-requires Inv-loop μ-loop
 put-requires c κs =
     let v = c .before .before .before .before .before .before .loop .inv in
-    omega (arith, room v (c .before .before .before .previous .ensures), v .fits)
+    omega (arith, places-left v (c .before .before .before .previous .ensures), v .fits)
 
 loop-less : tie.Need-loop-less Inv-loop μ-loop
 loop-less c = omega (arith, c .before .before .before .before .before .before .previous .ensures .within .fewer)

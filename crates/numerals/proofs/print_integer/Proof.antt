@@ -22,10 +22,10 @@ positive-here : (c : tie.Else1) → Positive (c .before .before .args .z)
 positive-here c = positive (c .before .before .args .z) (c .before .before .fits .z) (c .if1 .left)
 
 cast-print-decimal : tie.Need-cast-print-decimal
-cast-print-decimal c = let h = negative-here (c .before .before .before .before .before) in rw (h .turned) (tt, omega arith)
+cast-print-decimal c = let h = negative-here (c .before .before .before .before .before) in rw (h .complement) (tt, omega arith)
 
 add-print-decimal : tie.Need-add-print-decimal
-add-print-decimal c = let h = negative-here (c .before .before .before .before .before) in rw (h .turned) (omega arith)
+add-print-decimal c = let h = negative-here (c .before .before .before .before .before) in rw (h .complement) (omega arith)
 
 returns : tie.Need-returns
 returns c =
@@ -34,7 +34,7 @@ returns c =
     let h = negative-here (p .before .before) in
     let e : natAbs (a .z) - 1 + 1 ≡ natAbs (a .z) = omega (arith, h .least) in
     let sign : Continued (a .text .now) (a .at) (0x2D ∷ []) 1 (p .print-byte .last .0) (p .print-byte .result) = p .print-byte .ensures in
-    rw (h .text) (then sign (rw (h .turned, e) at (c .before .before .print-decimal .ensures)))
+    rw (h .text) (then sign (rw (h .complement, e) at (c .before .before .print-decimal .ensures)))
 
 cast-print-decimal-2 : tie.Need-cast-print-decimal-2
 cast-print-decimal-2 c = let h = positive-here (c .before) in rw (h .same) (tt, omega arith)

@@ -9,7 +9,7 @@ use Rattle.numerals.specs.Numerals.{decimal, integer}
 use Rattle.numerals.specs.Steps.{Continued}
 use Rattle.numerals.proofs.Texts.{then-ended}
 use Rattle.report.specs.Text.{space, lineFeed, lastFields, figureField}
-use Rattle.report.specs.Steps.{startSize}
+use Rattle.report.specs.Steps.{keyAndCountSize}
 use Rattle.report.proofs.Lines.{line-printed}
 use borrow.Author.Needs.{needs}
 use Rattle.report.proofs.print_line.Statement.{statement}
@@ -20,14 +20,14 @@ module _ (c : tie.After-print-integer-field) where
   abbrev sum-printed : tie.After-print-bits-field
   sum-printed = c .before .before .before .before .before
 
-  abbrev start-printed : tie.After-print-start
+  abbrev start-printed : tie.After-print-key-and-count
   start-printed = sum-printed .before .before .before .before .before
 
   abbrev start : tie.Start
   start = start-printed .before .before .before
 
-  numbers-printed : Continued (start .args .text .now) (start .args .at) (decimal (start .args .line .key) ++ space ++ decimal (start .args .line .count) ++ space) startSize (start-printed .print-start .last .0) (start-printed .print-start .result)
-  numbers-printed = start-printed .print-start .ensures
+  numbers-printed : Continued (start .args .text .now) (start .args .at) (decimal (start .args .line .key) ++ space ++ decimal (start .args .line .count) ++ space) keyAndCountSize (start-printed .print-key-and-count .last .0) (start-printed .print-key-and-count .result)
+  numbers-printed = start-printed .print-key-and-count .ensures
 
   abbrev figure : ℤ
   figure = start .args .line .figure

@@ -5,7 +5,6 @@ use mathlib.Core.Path.{subst}
 use mathlib.Core.List.{_++_}
 use Rattle.finish.specs.Steps.{FiniteSum}
 use Rattle.finish.proofs.Fraction.{not-nan}
-use Rattle.numerals.specs.Numerals.{digit, decimalIn, decimal}
 use Rattle.numerals.specs.Steps.{Continued}
 use Rattle.numerals.proofs.Texts.{then-ended, longer}
 use Rattle.report.specs.Text.{lineFeed, refusalText, lastFields, figureField}
@@ -19,9 +18,7 @@ module _ (c : tie.After-print-refusal) where
   abbrev sum-printed : tie.After-print-bits-field
   sum-printed = c .before .before .before .before
 
-  -- unfolded, so that another number is refused by its digits
-  figure-printed : Continued (sum-printed .print-bits-field .last .0) (sum-printed .print-bits-field .result) (refusalText 15 ++ lineFeed) (refusalSize + 1) (c .print-refusal .last .0) (c .print-refusal .result)
-  unfolding refusalText decimal decimalIn digit
+  figure-printed : Continued (sum-printed .print-bits-field .last .0) (sum-printed .print-bits-field .result) (refusalText (sum-printed .before .before .before .before .before .before .args .n) ++ lineFeed) (refusalSize + 1) (c .print-refusal .last .0) (c .print-refusal .result)
   figure-printed = c .print-refusal .ensures
 
 float-to-bits-print-bits-field : tie.Need-float-to-bits-print-bits-field
@@ -34,7 +31,7 @@ unfolding lastFields figureField
 returns c =
     let d = c .before .before in
     let p = sum-printed d in
-    rw (p .before .before .before .sum .given .1) (then-ended (refusalText 15) lineFeed (p .print-bits-field .ensures) (figure-printed d))
+    rw (p .before .before .before .sum .given .1) (then-ended (refusalText (p .before .before .before .before .before .before .args .n)) lineFeed (p .print-bits-field .ensures) (figure-printed d))
 
 returns-2 : tie.Need-returns-2
 unfolding lastFields

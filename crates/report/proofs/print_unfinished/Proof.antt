@@ -4,7 +4,7 @@ use Rattle.report.proofs.print_unfinished.Statement.{statement}
 use Rattle.report.proofs.print_unfinished.Tie as tie
 
 returns : tie.Need-returns
-returns c = line-printed _ _ _ (c .before .before .before .before .before .before .print-start .ensures) (c .before .before .print-refused-fields .ensures)
+returns c = line-printed _ _ _ (c .before .before .before .before .before .before .print-key-and-count .ensures) (c .before .before .print-refused-fields .ensures)
 
 pub print-unfinished-spec : {M : Type 1} → statement M
 print-unfinished-spec =

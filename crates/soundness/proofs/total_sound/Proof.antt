@@ -5,7 +5,7 @@ use borrow.Author.Tests.{lt-ltb, le-ltb}
 use mir.Syntax.{w64}
 use mir.Val.{ofZ, SFits}
 use Rattle.level.specs.Carry.{carryBase}
-use Rattle.codec.proofs.Laws.{turned, low-half, sign-known}
+use Rattle.codec.proofs.Laws.{complement-low, low-half, sign-known}
 use Rattle.record.specs.Sound.{soundTotal}
 use Rattle.soundness.proofs.Tests.{size-negative, size-positive}
 use borrow.Author.Needs.{needs}
@@ -17,7 +17,7 @@ in-range c = search needs
 
 cast-at-most : tie.Need-cast-at-most
 cast-at-most c =
-    let l = turned (c .before .before .before .args .x .carry) (in-range (c .before .before .before)) (c .if2 .taken) in
+    let l = complement-low (c .before .before .before .args .x .carry) (in-range (c .before .before .before)) (c .if2 .taken) in
     (l .0, omega (arith, l .1))
 
 returns : tie.Need-returns

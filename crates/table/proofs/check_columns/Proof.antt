@@ -22,15 +22,15 @@ module _ (c : tie.Else1) where
   sound-here : sound (start .args .table .now) (start .args .g) ≡ true
   sound-here = sym (c .before .is-sound .ensures) ∙ not-false (c .before .is-sound .result) (c .if1 .left)
 
-long-here : (c : tie.Else2) → ltb (start (c .before) .args .work) (length (start (c .before) .args .table .now)) ≡ false
-long-here c = le-ltb (start (c .before) .args .work) (length (start (c .before) .args .table .now)) (c .if2 .left)
+long-here : (c : tie.Else2) → ltb (start (c .before) .args .work-len) (length (start (c .before) .args .table .now)) ≡ false
+long-here c = le-ltb (start (c .before) .args .work-len) (length (start (c .before) .args .table .now)) (c .if2 .left)
 
 fit-here : (c : tie.Else3) → columnsFit (start (c .before .before .before) .args .kind) (start (c .before .before .before) .args .keys .now) (start (c .before .before .before) .args .values .now) ≡ true
 fit-here c = sym (c .before .columns-fit .ensures) ∙ not-false (c .before .columns-fit .result) (c .if3 .left)
 
 -- with these three passed the rows decide
 last-decides : (c : tie.After-any-not-finite) → let a = start (c .before .before .before .before) .args in
-    columnOutcome (a .kind) (a .table .now) (a .g) (a .keys .now) (a .values .now) (a .work) ≡ outcome (ground 10 (c .any-not-finite .result) ∷ []) tt
+    columnOutcome (a .kind) (a .table .now) (a .g) (a .keys .now) (a .values .now) (a .work-len) ≡ outcome (ground 10 (c .any-not-finite .result) ∷ []) tt
 unfolding columnGrounds
 last-decides c =
     let d = c .before in
@@ -52,7 +52,7 @@ returns-2 : tie.Need-returns-2
 unfolding columnGrounds
 returns-2 c =
     let a = start (c .before) .args in
-    rw (sound-here (c .before), lt-ltb (a .work) (length (a .table .now)) (c .if2 .taken)) refl
+    rw (sound-here (c .before), lt-ltb (a .work-len) (length (a .table .now)) (c .if2 .taken)) refl
 
 returns-3 : tie.Need-returns-3
 unfolding columnGrounds

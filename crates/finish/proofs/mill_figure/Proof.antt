@@ -12,8 +12,8 @@ use Rattle.limbs.specs.Nearest.{nearestBy}
 use Rattle.finish.proofs.Fraction.{not-nan, near-figure, far-figure}
 use Rattle.level.proofs.Double.{significand-lt}
 use borrow.Author.Needs.{needs}
-use Rattle.finish.proofs.figure_of.Statement.{statement}
-use Rattle.finish.proofs.figure_of.Tie as tie
+use Rattle.finish.proofs.mill_figure.Statement.{statement}
+use Rattle.finish.proofs.mill_figure.Tie as tie
 
 holds : (c : tie.Start) → T (fits binary64 (c .args .sum))
 holds c = subst (λ (b : Bool). T b) (sym (c .good .0 .1)) tt
@@ -29,12 +29,12 @@ returns c =
 nearest-hundredths-requires : tie.Need-nearest-hundredths-requires
 nearest-hundredths-requires c κs =
     let b = toBits binary64 (c .before .before .before .before .before .args .sum) in
-    (lt-of-le-of-lt (le-of-eq (c .before .significand .ensures)) (significand-lt b), c .places .ensures .1)
+    (lt-of-le-of-lt (le-of-eq (c .before .significand .ensures)) (significand-lt b), c .digits-below-one .ensures .1)
 
 returns-2 : tie.Need-returns-2
 returns-2 c =
     let n = c .before .nearest-hundredths in
-    let p = c .before .before .places in
+    let p = c .before .before .digits-below-one in
     let d = c .before .before .before .significand in
     let g = c .before .before .before .before .is-negative in
     let f = c .before .before .before .before .before .before .exponent-field in
@@ -42,12 +42,12 @@ returns-2 c =
     let b = toBits binary64 (s .args .sum) in
     let size : n .result ≡ nearestBy (λ (q : ℕ). not (negative b)) (significand b * 100) (2 ^ p .result) =
     n .ensures ∙ ap₂ (λ (m : ℕ) (t : Bool). nearestBy (λ (q : ℕ). not t) (m * 100) (2 ^ p .result)) (d .ensures) (g .ensures) in
-    let places : p .result + (exponentField b - 1) ≡ 1074 = ap (λ (x : ℕ). p .result + (x - 1)) (sym (f .ensures)) ∙ p .ensures .0 in
-    let e : signed (g .result) (n .result) ≡ millFigure (s .args .sum) = ap₂ (λ (t : Bool) (m : ℕ). signed t m) (g .ensures) size ∙ near-figure (s .args .sum) (holds s) (s .pre) (p .result) places in
+    let below-one : p .result + (exponentField b - 1) ≡ 1074 = ap (λ (x : ℕ). p .result + (x - 1)) (sym (f .ensures)) ∙ p .ensures .0 in
+    let e : signed (g .result) (n .result) ≡ millFigure (s .args .sum) = ap₂ (λ (t : Bool) (m : ℕ). signed t m) (g .ensures) size ∙ near-figure (s .args .sum) (holds s) (s .pre) (p .result) below-one in
     c .figure-of-size .ensures ∙ ap (λ (z : ℤ). cond (beyond z) (refused 15) (accepted z)) e
 
-pub figure-of-spec : {M : Type 1} → statement M
-figure-of-spec =
+pub mill-figure-spec : {M : Type 1} → statement M
+mill-figure-spec =
     tie.close
     (tie.spec float-to-bits-bits (λ c κs. search needs) returns (λ c κs. search needs) (λ c κs. search needs) (λ c κs. search needs)
     nearest-hundredths-requires (λ c κs. search needs) returns-2)

@@ -4,8 +4,8 @@ use lib.ListN.{getD}
 use Rattle.limbs.specs.Limbs.{valueOf}
 use Rattle.limbs.proofs.Addition.{difference-normal, difference-up, difference-less, difference-pos}
 use borrow.Author.Needs.{needs}
-use Rattle.limbs.proofs.abs_diff.Statement.{statement}
-use Rattle.limbs.proofs.abs_diff.Tie as tie
+use Rattle.limbs.proofs.signed_difference.Statement.{statement}
+use Rattle.limbs.proofs.signed_difference.Tie as tie
 
 returns : tie.Need-returns
 returns c =
@@ -36,8 +36,8 @@ returns-2 c =
     let e = difference-up (s .args .q) (s .args .p) (d .result) (d .ensures) h in
     rw (c .without-bias2 .ensures) (difference-normal (s .args .q) (s .args .p) (d .result) (d .ensures) (s .pre .1) h, (e, difference-pos _ _ _ e (less (c .before))))
 
-pub abs-diff-spec : {M : Type 1} → statement M
-abs-diff-spec =
+pub signed-difference-spec : {M : Type 1} → statement M
+signed-difference-spec =
     tie.close
     (tie.spec (λ c κs. search needs) (λ c. search needs) (λ c κs. search needs) returns (λ c κs. search needs) without-bias-requires-2
     returns-2)
