@@ -5,7 +5,7 @@ ghost use Prim.Native.Nat.{_+_, _*_, _^_, _≤_, _<_};
 ghost use lib.Dec.{T};
 ghost use lib.ListN.{length};
 ghost use Rattle.lists.specs.Lists.{anyOf};
-ghost use Rattle.columns.specs.Columns.{columnRows, columnsFit, rowAt};
+ghost use Rattle.columns.specs.Columns.{columnRowCount, columnsFit, rowAt};
 ghost use Rattle.record.specs.Layout.{recordAt, records, capacity};
 ghost use Rattle.record.specs.Keys.{recordKeys, rising, place};
 ghost use Rattle.record.specs.Sound.{sound, soundRecord};
@@ -33,7 +33,7 @@ fn locate(t: &[u8], g: usize, last: usize, key: u32) -> Place
 // A table that took a section in: its group count, and the place that the next row tries first. A wrong place would cost time alone, so that
 // nothing is promised of it.
 pub enum Absorbed {
-    Into { groups: usize, at: usize },
+    Into { groups: usize, last: usize },
     NoRoom,
 }
 
@@ -67,14 +67,14 @@ fn absorb_record(t: &mut [u8], g: usize, last: usize, room: usize, r: Record) ->
     match locate(t, g, last, r.key) {
         Place::At(i) => {
             combine_at(t, i, r);
-            Absorbed::Into { groups: g, at: i }
+            Absorbed::Into { groups: g, last: i }
         }
         Place::Gap(i) => {
             if g < room {
                 record::insert(t, g, i, r);
                 return Absorbed::Into {
                     groups: g + 1,
-                    at: i,
+                    last: i,
                 };
             }
             Absorbed::NoRoom
@@ -95,7 +95,7 @@ pub fn absorb_row(
 ) -> Absorbed
     requires { ⌜ T (sound (now t) g) ⌝ }
     requires { ⌜ (g ≤ room) × (room ≤ capacity (length (now t))) ⌝ }
-    requires { ⌜ (columnsFit kind (now keys) (now values) ≡ true) × (i < columnRows (now keys)) ⌝ }
+    requires { ⌜ (columnsFit kind (now keys) (now values) ≡ true) × (i < columnRowCount (now keys)) ⌝ }
     requires { ⌜ anyOf overflows (absorb (ofRow (rowAt kind (now keys) (now values) i)) (sections (now t) g)) ≡ false ⌝ }
     ensures { λ a. ⌜ Absorbs (ofRow (rowAt kind (now (keys .entry)) (now (values .entry)) i)) room (sections (now (t .entry)) g) (now (t .exit)) a ⌝ }
 {

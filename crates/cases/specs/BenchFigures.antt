@@ -34,8 +34,8 @@ pub record Case : Type 0 where
 -- ---- what the definitions give
 
 -- the section of these rows after an add to an empty table
-unfoldable pub section : List ℕ → Option Section
-section bs = find 1 (added [] (map (λ (b : ℕ). record { key = 1; bits = b }) bs))
+unfoldable pub sectionAdded : List ℕ → Option Section
+sectionAdded bs = find 1 (added [] (map (λ (b : ℕ). record { key = 1; bits = b }) bs))
 
 -- the bits of an accepted sum
 abbrev pub sumBits : Outcome Float → Outcome ℕ
@@ -47,23 +47,23 @@ unfoldable pub addedUp : Float → List ℕ → Float
 addedUp x [] = x
 addedUp x (b ∷ bs) = addedUp (ieee.add binary64 x (ofBits binary64 b)) bs
 
--- a section that is there; its row count is 0 where it is not
-abbrev pub there : Option Section → Section
-there none = record { key = 0; count = 0; top = 0; high = pos 0; middle = pos 0; low = pos 0 }
-there (some s) = s
+-- the section, or one without rows where there is none
+abbrev pub orEmpty : Option Section → Section
+orEmpty none = record { key = 0; count = 0; top = 0; high = pos 0; middle = pos 0; low = pos 0 }
+orEmpty (some s) = s
 
 -- the figure of the same kind that a section has
-abbrev pub of : Option Section → List ℕ → BenchFigure → BenchFigure
-of o bs (totals a b c d) = totals (there o .top) (there o .high) (there o .middle) (there o .low)
-of o bs (firstTotal a b) = firstTotal (there o .top) (there o .high)
-of o bs (split a b) = split (residueOf (there o .high)) (carryOf (there o .high))
-of o bs (sum a) = sum (sumBits (sumOf o))
-of o bs (mill a) = mill (figureOf o)
-of o bs (leftToRight a) = leftToRight (toBits binary64 (addedUp (ofBits binary64 0) bs))
+abbrev pub figureLike : Option Section → List ℕ → BenchFigure → BenchFigure
+figureLike o bs (totals a b c d) = totals (orEmpty o .top) (orEmpty o .high) (orEmpty o .middle) (orEmpty o .low)
+figureLike o bs (firstTotal a b) = firstTotal (orEmpty o .top) (orEmpty o .high)
+figureLike o bs (split a b) = split (residueOf (orEmpty o .high)) (carryOf (orEmpty o .high))
+figureLike o bs (sum a) = sum (sumBits (sumOf o))
+figureLike o bs (mill a) = mill (figureOf o)
+figureLike o bs (leftToRight a) = leftToRight (toBits binary64 (addedUp (ofBits binary64 0) bs))
 
 -- the figure that the definitions give for a case's rows
 abbrev pub computedFigure : Case → BenchFigure
-computedFigure c = of (section (c .rowBits)) (c .rowBits) (c .benchFigure)
+computedFigure c = figureLike (sectionAdded (c .rowBits)) (c .rowBits) (c .benchFigure)
 
 -- ---- the figures
 

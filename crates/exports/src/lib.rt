@@ -1,4 +1,4 @@
-// The public calls under their plain names, for Rust and C. A call returns a number of at least 0, or minus the refusal's number; further numbers go
+// The public calls for other languages. A call returns a number of at least 0, or minus the refusal's number; further numbers go
 // out through references, and are 0 when the call is refused.
 ghost use mathlib.Core.Path.{_≡_};
 ghost use mathlib.Core.Bool.{not};
@@ -41,12 +41,12 @@ pub extern "C" fn girth_read(file: &[u8], keys_at: &mut u64, values_at: &mut u64
     ensures key_start { λ _. ⌜ now («keys_at» .exit) ≡ keyStart Double (now (file .entry)) ⌝ }
     ensures value_start { λ _. ⌜ now («values_at» .exit) ≡ valueStart Double (now (file .entry)) ⌝ }
 {
-    let keys = patch::key_start(file) as u64;
-    let values = patch::value_start(file) as u64;
-    *keys_at = keys;
-    *values_at = values;
+    let key_start = patch::key_start(file) as u64;
+    let value_start = patch::value_start(file) as u64;
+    *keys_at = key_start;
+    *values_at = value_start;
     match patch::read(file) {
-        Reading::Rows(n) => n as i64,
+        Reading::RowCount(n) => n as i64,
         Reading::Refused(r) => minus(r),
     }
 }

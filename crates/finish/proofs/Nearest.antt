@@ -25,7 +25,7 @@ use Rattle.level.proofs.Signs.{sub-signed, natAbs-signed}
 use Rattle.level.proofs.Double.{significand-lt}
 use Rattle.level.proofs.Near.{pow-sum}
 use Rattle.level.proofs.Binary64.{finite-binary64, value-binary64}
-use Rattle.finish.specs.Sum.{limit, nearestDouble, tooLarge, Nearest}
+use Rattle.finish.specs.Sum.{limit, nearestDouble, tooLarge, NearestFinite}
 use Rattle.limbs.specs.Nearest.{isOdd, nearestBy}
 use Rattle.limbs.specs.Packed.{droppedDigits, significandOf, signBit}
 use Rattle.limbs.proofs.Nearest.{le-or-lt, Halfway, nearest-near, nearest-even}
@@ -197,7 +197,7 @@ size-sign : (k : ℤ) → k ≡ signed (not (nonNeg k)) (natAbs k)
 size-sign (pos n) = refl
 size-sign (negsuc n) = refl
 
-pub nearest-double : (k : ℤ) → tooLarge k ≡ false → Nearest k (toBits binary64 (nearestDouble k))
+pub nearest-double : (k : ℤ) → tooLarge k ≡ false → NearestFinite k (toBits binary64 (nearestDouble k))
 unfolding tooLarge nearestDouble
 nearest-double k e =
     let s = not (nonNeg k) in

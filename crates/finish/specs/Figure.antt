@@ -9,7 +9,7 @@ use lib.Ieee.{Float, nan, inf, fin, up, down}
 use Rattle.level.specs.Double.{signed}
 use Rattle.limbs.specs.Nearest.{nearestBy}
 
--- 100 x to the nearest whole number, an exact half going up: in size, where x is not negative. `fin s m e` is m × up e / down e with the sign s;
+-- 100 x to the nearest whole number, an exact half going up, which is to the larger size where x is not negative. `fin s m e` is m × up e / down e with the sign s;
 -- no figure is asked of a NaN or an infinity.
 unfoldable pub millFigure : Float → ℤ
 unfolding nearestBy

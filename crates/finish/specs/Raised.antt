@@ -5,7 +5,7 @@ use mathlib.Core.List.{List}
 use lib.IntN.{ℤ, pos, natAbs, _+ℤ_}
 use Rattle.level.specs.declared.SplitTotal.{SplitTotal}
 use Rattle.level.specs.Carry.{carryBase}
-use Rattle.limbs.specs.Limbs.{valueOf, Normal}
+use Rattle.limbs.specs.Limbs.{valueOf, Reduced}
 
 -- what a carry is raised by
 abbrev pub carryRaise : ℕ
@@ -25,5 +25,5 @@ raisedTotal h = h .residue + carryBase * raisedCarry (h .carry)
 
 -- r holds three numbers, each one limb above the next
 pub record Stacked (high middle low : ℕ) (r : List ℕ) : Type 0 where
-  pub normal : Normal r
+  pub reduced : Reduced r
   pub same : valueOf r ≡ low + 2 ^ 40 * middle + 2 ^ 80 * high

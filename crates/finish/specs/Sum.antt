@@ -22,7 +22,7 @@ tooLarge k = leb limit (natAbs k)
 
 -- what "nearest" means, apart from how it is found: the double with the bits b is finite, no finite double is nearer to k units, and where another
 -- one is as near, the significand of b is even
-pub record Nearest (k : ℤ) (b : ℕ) : Type 0 where
+pub record NearestFinite (k : ℤ) (b : ℕ) : Type 0 where
   pub is-finite : finiteBits b ≡ true
   pub near : (c : ℕ) → finiteBits c ≡ true → natAbs (k -ℤ value b) ≤ natAbs (k -ℤ value c)
   pub even : (c : ℕ) → finiteBits c ≡ true → (value c ≡ value b → ⊥) → natAbs (k -ℤ value b) ≡ natAbs (k -ℤ value c) → significand b % 2 ≡ 0

@@ -58,7 +58,7 @@ fn raised_carry(c: i64) -> u64
     level::plus(c, 1 << 22) as u64
 }
 
-// What of a raised total stands above its 40 low digits.
+// What of a raised total stands above its 40 low digits, of which a carry has 1,024 times 2^40.
 fn high_digits(h: SplitTotal) -> u64
     requires { ⌜ InRange h ⌝ }
     ensures { λ r. ⌜ (r < 2 ^ 34) × (h .residue % 2 ^ 40 + 2 ^ 40 * r ≡ raisedTotal h) ⌝ }

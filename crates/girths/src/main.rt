@@ -3,7 +3,7 @@ use libc::STDERR_FILENO;
 use libc::STDIN_FILENO;
 use libc::STDOUT_FILENO;
 use report::Printed;
-use report::TEXT_SIZE;
+use report::LONGEST_TEXT;
 ghost use Prim.Native.Nat.{_-_, _≤_};
 ghost use mathlib.Core.Path.{_≡_};
 ghost use lib.ListN.{length, take};
@@ -11,7 +11,7 @@ ghost use Rattle.girths.specs.Input.{GaveAtMost};
 
 // How many bytes were read, or that a read failed.
 enum Received {
-    Bytes(usize),
+    Count(usize),
     Failed,
 }
 
@@ -25,7 +25,7 @@ fn read_more(buffer: &mut [u8], done: usize) -> Received
     if got < 0 {
         return Received::Failed;
     }
-    Received::Bytes(io::count(got, &buffer[done..]))
+    Received::Count(io::count(got, &buffer[done..]))
 }
 
 // Reads until the input ends or the buffer is full.
@@ -34,19 +34,19 @@ fn read_all(buffer: &mut [u8]) -> Received
 {
     let mut done = 0;
     while done < buffer.len() {
-        let Received::Bytes(n) = read_more(buffer, done) else {
+        let Received::Count(n) = read_more(buffer, done) else {
             return Received::Failed;
         };
         if n == 0 {
-            return Received::Bytes(done);
+            return Received::Count(done);
         }
         done += n;
     }
-    Received::Bytes(done)
+    Received::Count(done)
 }
 
 fn print_report(file: &[u8]) {
-    let mut text = [0u8; TEXT_SIZE];
+    let mut text = [0u8; LONGEST_TEXT];
     match report::report(file, &mut text) {
         Printed::Length(n) => {
             if !io::write_all(STDOUT_FILENO, &text[..n]) {
@@ -63,7 +63,7 @@ fn print_report(file: &[u8]) {
 fn main() {
     let mut buffer = [0u8; 65537];
     match read_all(&mut buffer) {
-        Received::Bytes(n) => print_report(&buffer[..n]),
+        Received::Count(n) => print_report(&buffer[..n]),
         Received::Failed => os::fail(b"girths: standard input"),
     }
 }

@@ -71,9 +71,9 @@ abbrev twice : List Call
 twice = addTo 0 (7 ∷ []) (1 ∷ []) ∷ addTo 1 (7 ∷ []) (2 ∷ []) ∷ merge 0 1 tt ∷ merge 0 1 tt ∷ []
 
 -- as a way of working: its columns hold bytes
-example : History
+mergedTwice : History
 unfolding leftInTable0
-example = record { initial = λ (i : ℕ). lentBuffer; calls = twice; in-bytes = refl }
+mergedTwice = record { initial = λ (i : ℕ). lentBuffer; calls = twice; in-bytes = refl }
 
 rows-twice : map (λ (r : Row). r .bits) (ledgerAfter (λ (i : ℕ). 128) noRows twice .rows 0) ≡ 1 ∷ 2 ∷ 2 ∷ []
 unfolding leftInTable0 ledgerAfter stepRows mergeRowsGrounds tooManyRows sectionNumbers addRowsGrounds insertKey sectionBits tooManyKeys

@@ -25,6 +25,6 @@ splitOf z = record { residue = residueOf z; carry = carryOf z }
 abbrev pub totalOf : SplitTotal → ℤ
 totalOf h = h .carry *ℤ pos carryBase +ℤ pos (h .residue)
 
--- a residue, and a carry below 2^22 in size; a total of at most 2^71 in size has one
+-- the residue is in range and the carry below 2^22 in size, as for every total of at most 2^71 in size
 abbrev pub InRange : SplitTotal → Type 0
 InRange h = (h .residue < carryBase) × (natAbs (h .carry) < 2 ^ 22)

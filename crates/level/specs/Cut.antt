@@ -22,7 +22,7 @@ restOf x u = absDiff x (closest x u * u)
 abbrev pub roundedUp : ℕ → ℕ → Bool
 roundedUp x u = ltb x (closest x u * u)
 
--- a sign, turned or kept
+-- a sign, flipped or kept
 abbrev pub flippedIf : Bool → Bool → Bool
 flippedIf g true = not g
 flippedIf g false = g

@@ -34,7 +34,7 @@ nearestTo (negsuc n) u = negℤ (pos (closest (suc n) u))
 abbrev pub left : ℤ → ℕ → ℤ
 left z j = z -ℤ nearestTo z (unit j) *ℤ pos (unit j)
 
--- what z gives to level j, when it goes through the k levels k - 1, .., 0
+-- what z gives to level j, when it goes through the s levels s - 1, .., 0
 unfoldable pub given : ℕ → ℤ → ℕ → ℤ
 given zero z j = pos 0
 given (suc s) z j = let lower = given s (left z s) j in cond (eqb j s) (nearestTo z (unit s)) lower

@@ -10,7 +10,7 @@ use lib.Dec.{eqb}
 use borrow.Author.Tests.{eq-eqb, ne-eqb, eqb-true, eqb-false}
 use mir.Syntax.{w64}
 use mir.Val.{Fits}
-use Rattle.limbs.specs.Limbs.{valueOf, Normal, DifferenceWithBias, withoutBias}
+use Rattle.limbs.specs.Limbs.{valueOf, Reduced, DifferenceWithBias, withoutBias}
 
 -- ---- a limb with the carry of the one below it
 
@@ -72,8 +72,8 @@ module _ (a b r : List ℕ) (g : DifferenceWithBias a b r) where
   pub difference-up : 2 ^ 40 ≤ getD r 3 0 → valueOf (withoutBias r) + valueOf b ≡ valueOf a
   difference-up h = up-same (getD r 0 0) (getD r 1 0) (getD r 2 0) (getD r 3 0) (valueOf a) (valueOf b) (2 ^ 40) h (g .same)
 
-  pub difference-normal : Normal a → 2 ^ 40 ≤ getD r 3 0 → Normal (withoutBias r)
-  difference-normal n h =
+  pub difference-reduced : Reduced a → 2 ^ 40 ≤ getD r 3 0 → Reduced (withoutBias r)
+  difference-reduced n h =
       let l : getD r 3 0 - 2 ^ 40 ≤ getD a 3 0 =
       last-le (getD r 0 0 + 2 ^ 40 * getD r 1 0 + 2 ^ 80 * getD r 2 0) _ (getD r 3 0 - 2 ^ 40) (getD a 3 0) (valueOf b)
       (three-lt (getD a 0 0) (getD a 1 0) (getD a 2 0) (n .limb0) (n .limb1) (n .limb2)) (difference-up h) in

@@ -8,7 +8,7 @@ use mathlib.Core.List.{List}
 use lib.ListN.{getD}
 use lib.Arith.{digits-mod}
 use lib.Pow.{pow-add, shr-lt}
-use Rattle.limbs.specs.Limbs.{valueOf, Normal}
+use Rattle.limbs.specs.Limbs.{valueOf, Reduced}
 use Rattle.limbs.specs.Nearest.{isOdd, rounded}
 use Rattle.limbs.specs.Packed.{leadingDigits}
 use Rattle.limbs.proofs.Addition.{three-lt}
@@ -45,7 +45,7 @@ some-low a b h = omega arith
 no-low : (a b : ℕ) → b + a ≤ 0 → a + 2 ^ 40 * b ≡ 0
 no-low a b h = omega arith
 
-module _ (a : List ℕ) (n : Normal a) where
+module _ (a : List ℕ) (n : Reduced a) where
   low-lt : getD a 0 0 + 2 ^ 40 * getD a 1 0 < 2 ^ 80
   low-lt = two-lt (getD a 0 0) (getD a 1 0) (n .limb0) (n .limb1)
 
@@ -74,7 +74,7 @@ module _ (a : List ℕ) (n : Normal a) where
 next-limb : (x d : ℕ) → x < 2 ^ 120 → x + 2 ^ 120 * d < suc d * 2 ^ 120
 next-limb x d h = omega arith
 
-pub value-lt : (a : List ℕ) (k : ℕ) → Normal a → getD a 3 0 < 2 ^ k → valueOf a < 2 ^ (k + 120)
+pub value-lt : (a : List ℕ) (k : ℕ) → Reduced a → getD a 3 0 < 2 ^ k → valueOf a < 2 ^ (k + 120)
 value-lt a k n h =
     lt-of-lt-of-le (next-limb _ (getD a 3 0) (three-lt (getD a 0 0) (getD a 1 0) (getD a 2 0) (n .limb0) (n .limb1) (n .limb2)))
     (le-trans (mul-le-mul-right (2 ^ 120) h) (le-of-eq (sym (pow-add 2 k 120))))
@@ -84,5 +84,5 @@ value-ge a k h =
     le-trans (le-of-eq (pow-add 2 k 120 ∙ mul-comm (2 ^ k) (2 ^ 120)))
     (le-trans (mul-le-mul-left (2 ^ 120) h) (le-add-left (2 ^ 120 * getD a 3 0) (getD a 0 0 + 2 ^ 40 * getD a 1 0 + 2 ^ 80 * getD a 2 0)))
 
-pub leading-le : (a : List ℕ) → Normal a → leadingDigits a ≤ 2 ^ 53
+pub leading-le : (a : List ℕ) → Reduced a → leadingDigits a ≤ 2 ^ 53
 leading-le a n = le-trans (nearest-le isOdd (valueOf a) (2 ^ 107)) (shr-lt 53 107 (value-lt a 40 n (n .limb3)))

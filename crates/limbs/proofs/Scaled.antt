@@ -99,7 +99,7 @@ module _ (a r : List ℕ) (t by : ℕ) (n : ShiftedLeft a r by) (g : 2 ^ 39 ≤ 
   lo = value-ge r 39 g
 
   hi : valueOf r < 2 ^ 160
-  hi = value-lt r 40 (n .normal) (n .normal .limb3)
+  hi = value-lt r 40 (n .reduced) (n .reduced .limb3)
 
   pub shift-lt : 27 + t < by → by - (27 + t) < 64
   shift-lt h = omega (arith, scaled-size (unitsOf a t) (valueOf r) t (80 + by) scaled lo hi, size-pos (unitsOf a t) (valueOf r) t (80 + by) scaled lo hi)

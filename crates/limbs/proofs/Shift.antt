@@ -9,7 +9,7 @@ use mir.Syntax.{w64}
 use mir.Val.{Fits}
 use lib.Count.{leadingZeros, leading-top}
 use lib.Pow.{pow-add, pow-pos, pow-mono, shr-le, shr-lt, shl-lt, shl-shr, mod-pow-add}
-use Rattle.limbs.specs.Limbs.{valueOf, Normal, ShiftedLeft}
+use Rattle.limbs.specs.Limbs.{valueOf, Reduced, ShiftedLeft}
 
 -- ---- by whole limbs, those above being 0
 
@@ -84,7 +84,7 @@ multiplied a b c d w = omega arith
 abbrev pub shiftedLimb : ℕ → ℕ → ℕ → ℕ
 shiftedLimb x y d = x * 2 ^ d % 2 ^ 40 + y * 2 ^ d / 2 ^ 40
 
-pub shifted : (a : List ℕ) (d : ℕ) → d < 40 → Normal a → getD a 3 0 < 2 ^ (40 - d)
+pub shifted : (a : List ℕ) (d : ℕ) → d < 40 → Reduced a → getD a 3 0 < 2 ^ (40 - d)
     → ShiftedLeft a (shiftedLimb (getD a 0 0) 0 d ∷ shiftedLimb (getD a 1 0) (getD a 0 0) d ∷ shiftedLimb (getD a 2 0) (getD a 1 0) d ∷ shiftedLimb (getD a 3 0) (getD a 2 0) d ∷ []) d
     × (getD a 3 0 * 2 ^ d ≤ shiftedLimb (getD a 3 0) (getD a 2 0) d)
 shifted a d h g l =
@@ -96,7 +96,7 @@ shifted a d h g l =
     let last : z * 2 ^ d % 2 ^ 40 ≡ z * 2 ^ d = mod-eq-of-lt (lt-of-lt-of-le (shl-lt (40 - d) d l) (le-of-eq (ap (λ (k : ℕ). 2 ^ k) full))) in
     let none : 0 * 2 ^ d / 2 ^ 40 ≡ 0 = omega arith in (
       record {
-        normal = record { limb0 = limb-lt w 0 d h (omega arith); limb1 = limb-lt x w d h (g .limb0); limb2 = limb-lt y x d h (g .limb1); limb3 = limb-lt z y d h (g .limb2) };
+        reduced = record { limb0 = limb-lt w 0 d h (omega arith); limb1 = limb-lt x w d h (g .limb0); limb2 = limb-lt y x d h (g .limb1); limb3 = limb-lt z y d h (g .limb2) };
         same =
             ap₂ (λ (f e : ℕ). w * 2 ^ d % 2 ^ 40 + f + 2 ^ 40 * shiftedLimb x w d + 2 ^ 80 * shiftedLimb y x d + 2 ^ 120 * (e + y * 2 ^ d / 2 ^ 40)) none last
             ∙ join (w * 2 ^ d) (x * 2 ^ d) (y * 2 ^ d) (z * 2 ^ d) _ _ _ _ _ _ (parts (w * 2 ^ d)) (parts (x * 2 ^ d)) (parts (y * 2 ^ d))
@@ -109,7 +109,7 @@ shifted a d h g l =
 pub shifted-on : (a b r : List ℕ) (s d : ℕ) → ShiftedLeft a b s → ShiftedLeft b r d → ShiftedLeft a r (s + d)
 shifted-on a b r s d p q =
     record {
-      normal = q .normal;
+      reduced = q .reduced;
       same = q .same ∙ ap (λ (x : ℕ). x * 2 ^ d) (p .same) ∙ mul-assoc (valueOf a) (2 ^ s) (2 ^ d) ∙ ap (λ (x : ℕ). valueOf a * x) (sym (pow-add 2 s d));
     }
 

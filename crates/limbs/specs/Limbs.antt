@@ -10,7 +10,7 @@ abbrev pub valueOf : List ℕ → ℕ
 valueOf a = getD a 0 0 + 2 ^ 40 * getD a 1 0 + 2 ^ 80 * getD a 2 0 + 2 ^ 120 * getD a 3 0
 
 -- every limb has 40 digits
-pub record Normal (a : List ℕ) : Type 0 where
+pub record Reduced (a : List ℕ) : Type 0 where
   pub limb0 : getD a 0 0 < 2 ^ 40
   pub limb1 : getD a 1 0 < 2 ^ 40
   pub limb2 : getD a 2 0 < 2 ^ 40
@@ -50,5 +50,5 @@ SignedDifference true v p q = (v + p ≡ q) × (0 < v)
 
 -- r is a shifted left by s digits
 pub record ShiftedLeft (a r : List ℕ) (s : ℕ) : Type 0 where
-  pub normal : Normal r
+  pub reduced : Reduced r
   pub same : valueOf r ≡ valueOf a * 2 ^ s

@@ -4,7 +4,7 @@ ghost use mathlib.Core.Bool.{cond};
 ghost use Prim.Native.Nat.{_+_, _-_, _*_, _/_, _%_, _^_, _<_, _≤_, compare};
 ghost use lib.Dec.{eqb};
 ghost use lib.ListN.{getD};
-ghost use Rattle.limbs.specs.Limbs.{valueOf, Normal, Carried, DifferenceWithBias, withoutBias, SignedDifference, ShiftedLeft};
+ghost use Rattle.limbs.specs.Limbs.{valueOf, Reduced, Carried, DifferenceWithBias, withoutBias, SignedDifference, ShiftedLeft};
 ghost use Rattle.limbs.specs.Nearest.{rounded};
 ghost use Rattle.limbs.specs.Packed.{leadingDigits, packed, unitsOf, mostScale};
 
@@ -27,7 +27,7 @@ pub fn propagate(a: [u64; 4]) -> [u64; 4]
 
 // Whether the number is 0.
 pub fn is_zero(a: [u64; 4]) -> bool
-    requires { ⌜ Normal a ⌝ }
+    requires { ⌜ Reduced a ⌝ }
     ensures { λ r. ⌜ r ≡ eqb (valueOf a) 0 ⌝ }
 {
     a[0] + a[1] + a[2] + a[3] == 0
@@ -43,8 +43,8 @@ fn limb_difference(x: u64, y: u64, more: u64) -> u64
 
 // a - b with 2^160 more, which is not negative.
 fn difference_with_bias(a: [u64; 4], b: [u64; 4]) -> [u64; 4]
-    requires { ⌜ Normal a ⌝ }
-    requires { ⌜ Normal b ⌝ }
+    requires { ⌜ Reduced a ⌝ }
+    requires { ⌜ Reduced b ⌝ }
     ensures { λ r. ⌜ DifferenceWithBias a b r ⌝ }
 {
     propagate([
@@ -70,9 +70,9 @@ pub struct SignMagnitude {
 }
 
 pub fn signed_difference(p: [u64; 4], q: [u64; 4]) -> SignMagnitude
-    requires { ⌜ Normal p ⌝ }
-    requires { ⌜ Normal q ⌝ }
-    ensures { λ r. ⌜ Normal (r .limbs) ⌝ }
+    requires { ⌜ Reduced p ⌝ }
+    requires { ⌜ Reduced q ⌝ }
+    ensures { λ r. ⌜ Reduced (r .limbs) ⌝ }
     ensures { λ r. ⌜ SignedDifference (r .negative) (valueOf (r .limbs)) (valueOf p) (valueOf q) ⌝ }
 {
     let biased = difference_with_bias(p, q);
@@ -96,7 +96,7 @@ struct Shifted {
 
 // Shifted left by whole limbs, until the last limb is not 0.
 fn shift_limbs(a: [u64; 4]) -> Shifted
-    requires { ⌜ Normal a ⌝ }
+    requires { ⌜ Reduced a ⌝ }
     requires { ⌜ 0 < valueOf a ⌝ }
     ensures { λ r. ⌜ ShiftedLeft a (r .limbs) (r .by) ⌝ }
     ensures { λ r. ⌜ (0 < getD (r .limbs) 3 0) × (r .by ≤ 120) ⌝ }
@@ -122,17 +122,17 @@ fn shift_limbs(a: [u64; 4]) -> Shifted
     }
 }
 
-// A limb shifted left by d digits: those of x that stay in it, and those that come from the limb below.
-fn shift_limb(x: u64, below: u64, d: u64) -> u64
-    requires { ⌜ (d < 40) × (below < 2 ^ 40) ⌝ }
-    ensures { λ r. ⌜ r ≡ x * 2 ^ d % 2 ^ 40 + below * 2 ^ d / 2 ^ 40 ⌝ }
+// A limb shifted left by d digits: those of x that stay in it, and those that come from the limb under it.
+fn shift_limb(x: u64, under: u64, d: u64) -> u64
+    requires { ⌜ (d < 40) × (under < 2 ^ 40) ⌝ }
+    ensures { λ r. ⌜ r ≡ x * 2 ^ d % 2 ^ 40 + under * 2 ^ d / 2 ^ 40 ⌝ }
 {
-    (x << d) % LIMB + (below >> (40 - d))
+    (x << d) % LIMB + (under >> (40 - d))
 }
 
 // Shifted left by d digits, which the last limb has room for.
 fn shift_digits(a: [u64; 4], d: u64) -> [u64; 4]
-    requires { ⌜ Normal a ⌝ }
+    requires { ⌜ Reduced a ⌝ }
     requires { ⌜ (d < 40) × (getD a 3 0 < 2 ^ (40 - d)) ⌝ }
     ensures { λ r. ⌜ ShiftedLeft a r d ⌝ }
     ensures { λ r. ⌜ getD a 3 0 * 2 ^ d ≤ getD r 3 0 ⌝ }
@@ -147,7 +147,7 @@ fn shift_digits(a: [u64; 4], d: u64) -> [u64; 4]
 
 // Shifted left until the leading digit of the 160 is set.
 fn normalise(a: [u64; 4]) -> Shifted
-    requires { ⌜ Normal a ⌝ }
+    requires { ⌜ Reduced a ⌝ }
     requires { ⌜ 0 < valueOf a ⌝ }
     ensures { λ r. ⌜ ShiftedLeft a (r .limbs) (r .by) ⌝ }
     ensures { λ r. ⌜ (2 ^ 39 ≤ getD (r .limbs) 3 0) × (r .by < 160) ⌝ }
@@ -167,8 +167,8 @@ fn one_if(b: bool) -> u64
     if b { 1 } else { 0 }
 }
 
-// The quotient q or the next number, whichever is nearer, by its rest and half of the divisor; at an exact half the next where `tie_up` says so, for which the
-// rest counts one more.
+// The quotient q or the next number, whichever is nearer, by its rest and half of the divisor; at an exact half the next where `tie_up` says so: the rest
+// then counts one more, which passes the half.
 pub fn round_by(q: u64, rest: u64, half: u64, tie_up: bool) -> u64
     requires { ⌜ (q < 2 ^ 63) × (rest < 2 ^ 63) ⌝ }
     ensures { λ r. ⌜ r ≡ rounded «tie_up» q (compare rest half) ⌝ }
@@ -182,7 +182,7 @@ pub fn round_by(q: u64, rest: u64, half: u64, tie_up: bool) -> u64
 
 // The digits below the 53 leading ones, as a number of units of which 2^27 are a half: 27 digits, and one that is set where any lower digit is.
 fn lower_digits(a: [u64; 4]) -> u64
-    requires { ⌜ Normal a ⌝ }
+    requires { ⌜ Reduced a ⌝ }
     ensures { λ r. ⌜ (compare r (2 ^ 27) ≡ compare (valueOf a % 2 ^ 107 * 2) (2 ^ 107)) × (r < 2 ^ 28) ⌝ }
 {
     let rest = a[2] % (1 << 27) * 2;
@@ -191,24 +191,24 @@ fn lower_digits(a: [u64; 4]) -> u64
 
 // The 53 leading digits of the 160, to the nearest number, an exact half to the even one.
 fn leading_digits(a: [u64; 4]) -> u64
-    requires { ⌜ Normal a ⌝ }
+    requires { ⌜ Reduced a ⌝ }
     ensures { λ r. ⌜ r ≡ leadingDigits a ⌝ }
 {
     let q = a[3] * 8192 + (a[2] >> 27);
     round_by(q, lower_digits(a), 1 << 27, q % 2 == 1)
 }
 
-// The bits with this exponent field above these digits; a hidden digit among them adds one to the field.
-fn assemble(exponent: u64, digits: u64) -> u64
-    requires { ⌜ (exponent < 2 ^ 12) × (exponent * 2 ^ 52 + digits < 2 ^ 64) ⌝ }
-    ensures { λ r. ⌜ r ≡ exponent * 2 ^ 52 + digits ⌝ }
+// The bits with this exponent field above this significand, whose hidden digit adds one to the field.
+fn assemble(exponent: u64, significand: u64) -> u64
+    requires { ⌜ (exponent < 2 ^ 12) × (exponent * 2 ^ 52 + significand < 2 ^ 64) ⌝ }
+    ensures { λ r. ⌜ r ≡ exponent * 2 ^ 52 + significand ⌝ }
 {
-    (exponent << 52) + digits
+    (exponent << 52) + significand
 }
 
 // The bits, without the sign, of the double nearest to a × 2^e / 2^80 units of 2^-1074.
 pub fn nearest_bits(a: [u64; 4], e: u64) -> u64
-    requires { ⌜ Normal a ⌝ }
+    requires { ⌜ Reduced a ⌝ }
     requires { ⌜ (0 < valueOf a) × (e ≤ mostScale) ⌝ }
     requires { ⌜ unitsOf a e * 2 ^ 80 ≡ valueOf a * 2 ^ e ⌝ }
     ensures { λ r. ⌜ r ≡ packed (unitsOf a e) ⌝ }
@@ -216,10 +216,10 @@ pub fn nearest_bits(a: [u64; 4], e: u64) -> u64
     let n = normalise(a);
     let by = n.by;
     let limbs = n.limbs;
-    let digits = leading_digits(limbs);
+    let significand = leading_digits(limbs);
     let unshifted = 27 + e;
     if by <= unshifted {
-        return assemble(unshifted - by, digits);
+        return assemble(unshifted - by, significand);
     }
-    digits >> (by - unshifted)
+    significand >> (by - unshifted)
 }

@@ -17,7 +17,7 @@ use Rattle.table.specs.Combine.{combine, merged}
 use Rattle.table.specs.Calls.{overflows, mergeSections}
 use Rattle.lists.specs.Lists.{anyOf}
 use Rattle.merge.specs.declared.Ends.{Ends}
-use Rattle.merge.specs.Steps.{keyAt, countAt, sectionIn, Within, lastSection, Back}
+use Rattle.merge.specs.Steps.{keyAt, countAt, sectionIn, Within, lastSection, StepBack}
 use Rattle.merge.proofs.Merged.{Below, last-first, last-second, last-both}
 use Rattle.merge.proofs.State.{sections-more, prior, below-all, any-append}
 
@@ -47,19 +47,19 @@ module _ (s s′ : List ℕ) (i j : ℕ) (e : Ends) where
 
 module _ (s s′ : List ℕ) (i j : ℕ) (h : T (sound s i)) (h′ : T (sound s′ j)) (l : 0 < j) where
   inside : (e : Ends) → e .i ≤ i → e .j ≤ j → e .i + e .j < i + j → Within s i s′ j e
-  inside e p q m = record { first = p; second = q; fewer = m; inside = sound-parts s i h .0; inside′ = sound-parts s′ j h′ .0 }
+  inside e p q m = record { no-more₁ = p; no-more₂ = q; fewer = m; inside = sound-parts s i h .0; inside′ = sound-parts s′ j h′ .0 }
 
   cut₂ : sections s′ j ≡ sections s′ (j - 1) ++ sectionIn s′ (j - 1) ∷ []
   cut₂ = sections-last s′ j l (sound-parts s′ j h′ .0)
 
-  pub second-last : (0 < i → keyAt s (i - 1) < keyAt s′ (j - 1)) → Back s i s′ j (record { i = i; j = j - 1 })
+  pub second-last : (0 < i → keyAt s (i - 1) < keyAt s′ (j - 1)) → StepBack s i s′ j (record { i = i; j = j - 1 })
   second-last k =
       let p = prior s′ j h′ l in
       record {
         within = inside (record { i = i; j = j - 1 }) (le-refl i) (omega arith) (omega arith);
         sound₁ = h;
         sound₂ = p .front;
-        last =
+        last-section =
             ap (merged (sections s i)) cut₂
             ∙ last-second (sectionIn s′ (j - 1)) (sections s i) (sections s′ (j - 1)) (below-all s i (keyAt s′ (j - 1)) h k) (p .below)
             ∙ ap (λ (x : Section). mergeSections s i s′ (j - 1) ++ x ∷ []) (sym (of-second s s′ i j (record { i = i; j = j - 1 }) refl));
@@ -69,18 +69,18 @@ module _ (s s′ : List ℕ) (i j : ℕ) (h : T (sound s i)) (h′ : T (sound s�
     cut₁ : sections s i ≡ sections s (i - 1) ++ sectionIn s (i - 1) ∷ []
     cut₁ = sections-last s i m (sound-parts s i h .0)
 
-    pub first-last : keyAt s′ (j - 1) < keyAt s (i - 1) → Back s i s′ j (record { i = i - 1; j = j })
+    pub first-last : keyAt s′ (j - 1) < keyAt s (i - 1) → StepBack s i s′ j (record { i = i - 1; j = j })
     first-last k = record {
       within = inside (record { i = i - 1; j = j }) (omega arith) (le-refl j) (omega arith);
       sound₁ = prior s i h m .front;
       sound₂ = h′;
-      last =
+      last-section =
           ap (λ (x : List Section). merged x (sections s′ j)) cut₁
           ∙ last-first (sectionIn s (i - 1)) (sections s (i - 1)) (sections s′ j) (below-all s′ j (keyAt s (i - 1)) h′ (λ n. k))
           ∙ ap (λ (x : Section). mergeSections s (i - 1) s′ j ++ x ∷ []) (sym (of-first s s′ i j (record { i = i - 1; j = j }) (λ q. omega arith) refl));
     }
 
-    pub both-last : keyAt s (i - 1) ≡ keyAt s′ (j - 1) → Back s i s′ j (record { i = i - 1; j = j - 1 })
+    pub both-last : keyAt s (i - 1) ≡ keyAt s′ (j - 1) → StepBack s i s′ j (record { i = i - 1; j = j - 1 })
     both-last k =
         let p = prior s i h m in
         let q = prior s′ j h′ l in
@@ -88,7 +88,7 @@ module _ (s s′ : List ℕ) (i j : ℕ) (h : T (sound s i)) (h′ : T (sound s�
           within = inside (record { i = i - 1; j = j - 1 }) (omega arith) (omega arith) (omega arith);
           sound₁ = p .front;
           sound₂ = q .front;
-          last =
+          last-section =
               ap₂ merged cut₁ cut₂
               ∙ last-both (sectionIn s (i - 1)) (sectionIn s′ (j - 1)) (sections s (i - 1)) (sections s′ (j - 1)) (sym k)
               (subst (λ (n : ℕ). Below n (sections s (i - 1))) k (p .below)) (q .below)
@@ -96,12 +96,12 @@ module _ (s s′ : List ℕ) (i j : ℕ) (h : T (sound s i)) (h′ : T (sound s�
         }
 
 -- ---- what one step back says of the whole union
-module _ {s s′ : List ℕ} {i j : ℕ} {e : Ends} (b : Back s i s′ j e) where
+module _ {s s′ : List ℕ} {i j : ℕ} {e : Ends} (b : StepBack s i s′ j e) where
   pub length-back : length (mergeSections s i s′ j) ≡ length (mergeSections s (e .i) s′ (e .j)) + 1
-  length-back = ap length (b .last) ∙ length-append (mergeSections s (e .i) s′ (e .j)) (lastSection s i s′ j e ∷ [])
+  length-back = ap length (b .last-section) ∙ length-append (mergeSections s (e .i) s′ (e .j)) (lastSection s i s′ j e ∷ [])
 
   pub any-back : anyOf overflows (mergeSections s i s′ j) ≡ (anyOf overflows (mergeSections s (e .i) s′ (e .j)) || overflows (lastSection s i s′ j e))
-  any-back = ap (anyOf overflows) (b .last) ∙ any-append overflows (mergeSections s (e .i) s′ (e .j)) (lastSection s i s′ j e)
+  any-back = ap (anyOf overflows) (b .last-section) ∙ any-append overflows (mergeSections s (e .i) s′ (e .j)) (lastSection s i s′ j e)
 
 -- a merge of nothing
 pub merge-none : (s s′ : List ℕ) (i j : ℕ) → j ≤ 0 → mergeSections s i s′ j ≡ sections s i

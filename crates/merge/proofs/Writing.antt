@@ -19,7 +19,7 @@ use Rattle.table.specs.Calls.{overflows, mergeSections}
 use Rattle.lists.specs.Lists.{anyOf}
 use Rattle.table.proofs.Lookup.{merged-length}
 use Rattle.merge.specs.declared.Ends.{Ends}
-use Rattle.merge.specs.Steps.{lastSection, Back}
+use Rattle.merge.specs.Steps.{lastSection, StepBack}
 use Rattle.table.proofs.State.{length-sections}
 use Rattle.merge.proofs.State.{written-self, written-more}
 use Rattle.table.proofs.State.{sections-agree, sound-agree}
@@ -41,7 +41,7 @@ module _ {s₀ : List ℕ} {g : ℕ} {s′ : List ℕ} {g′ : ℕ} {s : List �
   finished h =
       sym (written-self s i (t .sound₁) (t .bytes)) ∙ ap (λ (x : List Section). written x s) (sym (merge-none s s′ i j h)) ∙ t .rest
 
-  module _ {e : Ends} (b : Back s i s′ j e) where
+  module _ {e : Ends} (b : StepBack s i s′ j e) where
     pub places-left : k ≡ length (mergeSections s (e .i) s′ (e .j)) + 1
     places-left = t .groups ∙ length-back b
 
@@ -81,7 +81,7 @@ module _ {s₀ : List ℕ} {g : ℕ} {s′ : List ℕ} {g′ : ℕ} {s : List �
         rest =
             ap₂ written still put
             ∙ written-more (mergeSections s (e .i) s′ (e .j)) (lastSection s i s′ j e) s (omega (arith, places-left, t .fits))
-            ∙ ap (λ (x : List Section). written x s) (sym (b .last))
+            ∙ ap (λ (x : List Section). written x s) (sym (b .last-section))
             ∙ t .rest;
         long = long₁ ∙ t .long;
         bytes = h;

@@ -27,20 +27,20 @@ sectionIn s i = meaning (recordAt s (i * 64))
 
 -- e leaves fewer records of the two tables, of neither more than there were, and both tables lie in their bytes
 pub record Within (s : List ℕ) (i : ℕ) (s′ : List ℕ) (j : ℕ) (e : Ends) : Type 0 where
-  pub first : e .i ≤ i
-  pub second : e .j ≤ j
+  pub no-more₁ : e .i ≤ i
+  pub no-more₂ : e .j ≤ j
   pub fewer : e .i + e .j < i + j
   pub inside : i * 64 ≤ length s
   pub inside′ : j * 64 ≤ length s′
 
--- the section of what is taken off
+-- the section that is taken away
 unfoldable pub lastSection : List ℕ → ℕ → List ℕ → ℕ → Ends → Section
 lastSection s i s′ j e =
     cond (eqb (e .i) i) (sectionIn s′ (e .j)) (cond (eqb (e .j) j) (sectionIn s (e .i)) (combine (sectionIn s (e .i)) (sectionIn s′ (e .j))))
 
 -- it is the last section of the union, and sound tables are left
-pub record Back (s : List ℕ) (i : ℕ) (s′ : List ℕ) (j : ℕ) (e : Ends) : Type 0 where
+pub record StepBack (s : List ℕ) (i : ℕ) (s′ : List ℕ) (j : ℕ) (e : Ends) : Type 0 where
   pub within : Within s i s′ j e
   pub sound₁ : T (sound s (e .i))
   pub sound₂ : T (sound s′ (e .j))
-  pub last : mergeSections s i s′ j ≡ mergeSections s (e .i) s′ (e .j) ++ lastSection s i s′ j e ∷ []
+  pub last-section : mergeSections s i s′ j ≡ mergeSections s (e .i) s′ (e .j) ++ lastSection s i s′ j e ∷ []

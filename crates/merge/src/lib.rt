@@ -9,7 +9,7 @@ ghost use Rattle.record.specs.Section.{recordOf, written};
 ghost use Rattle.table.specs.Calls.{mostRows, overflows, mergeSections, mergeOutcome, mergeLeaves};
 ghost use Rattle.lists.specs.Lists.{anyOf};
 ghost use Rattle.table.specs.Answer.{tableAnswer};
-ghost use Rattle.merge.specs.Steps.{countAt, Within, lastSection, Back};
+ghost use Rattle.merge.specs.Steps.{countAt, Within, lastSection, StepBack};
 use record::Record;
 use refusal::Refusal;
 use table::TableAnswer;
@@ -25,7 +25,7 @@ fn previous(first: &[u8], i: usize, second: &[u8], j: usize) -> Ends
     requires { ⌜ T (sound (now first) i) ⌝ }
     requires { ⌜ T (sound (now second) j) ⌝ }
     requires { ⌜ 0 < j ⌝ }
-    ensures { λ e. ⌜ Back (now (first .entry)) i (now (second .entry)) j e ⌝ }
+    ensures { λ e. ⌜ StepBack (now (first .entry)) i (now (second .entry)) j e ⌝ }
 {
     if i == 0 {
         return Ends { i, j: j - 1 };
@@ -112,7 +112,7 @@ fn united(first: &[u8], g1: usize, second: &[u8], g2: usize) -> Union
 }
 
 // The sections of both tables, `groups` of them, written from the last one to the first.
-fn write_back(first: &mut [u8], g1: usize, second: &[u8], g2: usize, groups: usize)
+fn write_union(first: &mut [u8], g1: usize, second: &[u8], g2: usize, groups: usize)
     requires { ⌜ T (sound (now first) g1) ⌝ }
     requires { ⌜ T (sound (now second) g2) ⌝ }
     requires { ⌜ anyOf overflows (mergeSections (now first) g1 (now second) g2) ≡ false ⌝ }
@@ -156,12 +156,12 @@ fn decide(first: &[u8], g1: usize, second: &[u8], g2: usize) -> TableAnswer
 
 // Document 01's merge: the sections of the second table brought into the first.
 pub fn merge(first: &mut [u8], g1: usize, second: &[u8], g2: usize) -> TableAnswer
-    ensures { λ r. ⌜ tableAnswer r ≡ mergeOutcome (now (first .entry)) g1 (now (second .entry)) g2 ⌝ }
-    ensures { λ r. ⌜ now (first .exit) ≡ mergeLeaves (now (first .entry)) g1 (now (second .entry)) g2 ⌝ }
+    ensures answer { λ r. ⌜ tableAnswer r ≡ mergeOutcome (now (first .entry)) g1 (now (second .entry)) g2 ⌝ }
+    ensures content { λ r. ⌜ now (first .exit) ≡ mergeLeaves (now (first .entry)) g1 (now (second .entry)) g2 ⌝ }
 {
     match decide(first, g1, second, g2) {
         TableAnswer::Groups(n) => {
-            write_back(first, g1, second, g2, n);
+            write_union(first, g1, second, g2, n);
             TableAnswer::Groups(n)
         }
         TableAnswer::Refused(r) => TableAnswer::Refused(r),

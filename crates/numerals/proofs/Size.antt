@@ -5,16 +5,16 @@ use native.Mathlib.Omega.{arith}
 use lib.IntN.{ℤ, pos, negsuc, natAbs}
 use lib.ListN.{length}
 use Rattle.numerals.specs.Numerals.{decimal, integer, hexadecimal}
-use Rattle.numerals.specs.Steps.{decimalSize, integerSize, bitsSize}
+use Rattle.numerals.specs.Steps.{longestDecimal, longestInteger, longestBits}
 use Rattle.numerals.proofs.Digits.{short, length-digits}
 
-pub length-decimal : (n : ℕ) → n < 2 ^ 32 → length (decimal n) ≤ decimalSize
+pub length-decimal : (n : ℕ) → n < 2 ^ 32 → length (decimal n) ≤ longestDecimal
 length-decimal n h = short 9 n (omega arith)
 
-pub length-integer : (z : ℤ) → natAbs z < 2 ^ 32 → length (integer z) ≤ integerSize
+pub length-integer : (z : ℤ) → natAbs z < 2 ^ 32 → length (integer z) ≤ longestInteger
 unfolding integer
 length-integer (pos n) h = omega (arith, length-decimal n h)
 length-integer (negsuc n) h = omega (arith, length-decimal (suc n) h)
 
-pub length-hexadecimal : (bits : ℕ) → length (hexadecimal bits) ≡ bitsSize
+pub length-hexadecimal : (bits : ℕ) → length (hexadecimal bits) ≡ longestBits
 length-hexadecimal bits = length-digits 16 16 bits

@@ -4,21 +4,21 @@ use mathlib.Core.Path.{_≡_}
 use mathlib.Core.List.{List, _++_}
 use lib.ListN.{take}
 
--- where s held a text of its first `at` bytes, the first r bytes of s′ are that text and then w; r is at most k more
+-- where s held a continues of its first `at` bytes, the first r bytes of s′ are that continues and then w; r is at most k more
 pub record Continued (s : List ℕ) (at : ℕ) (w : List ℕ) (k : ℕ) (s′ : List ℕ) (r : ℕ) : Type 0 where
-  pub text : take r s′ ≡ take at s ++ w
+  pub continues : take r s′ ≡ take at s ++ w
   pub growth : r ≤ at + k
 
 -- ---- the most bytes that each numeral takes
 
 -- a 32-bit number in decimal
-abbrev pub decimalSize : ℕ
-decimalSize = 10
+abbrev pub longestDecimal : ℕ
+longestDecimal = 10
 
 -- a 32-bit whole number in decimal, its minus sign included
-abbrev pub integerSize : ℕ
-integerSize = 1 + decimalSize
+abbrev pub longestInteger : ℕ
+longestInteger = 1 + longestDecimal
 
 -- 64 bits in hexadecimal
-abbrev pub bitsSize : ℕ
-bitsSize = 16
+abbrev pub longestBits : ℕ
+longestBits = 16

@@ -5,7 +5,7 @@ ghost use mathlib.Core.List.{[], _∷_, _++_};
 ghost use lib.ListN.{length};
 ghost use lib.Seq.{sets};
 ghost use Rattle.numerals.specs.Numerals.{digit, digits, decimal, integer, hexadecimal};
-ghost use Rattle.numerals.specs.Steps.{Continued, decimalSize, integerSize, bitsSize};
+ghost use Rattle.numerals.specs.Steps.{Continued, longestDecimal, longestInteger, longestBits};
 
 // The byte of a digit.
 fn digit_byte(d: u64) -> u8
@@ -34,7 +34,7 @@ fn put_digits(text: &mut [u8], at: usize, n: u64, base: u64, w: usize)
 
 // How many decimal digits n has.
 fn decimal_length(n: u32) -> usize
-    ensures { λ r. ⌜ (r ≡ length (decimal n)) × (r ≤ decimalSize) ⌝ }
+    ensures { λ r. ⌜ (r ≡ length (decimal n)) × (r ≤ longestDecimal) ⌝ }
 {
     let mut y = n;
     let mut w = 1;
@@ -45,7 +45,7 @@ fn decimal_length(n: u32) -> usize
     w
 }
 
-// The text of at bytes goes on with these bytes; each of these functions returns the text's new length.
+// The text, which is the first `at` bytes, goes on with these bytes; each of these functions returns its new length.
 fn print_byte(text: &mut [u8], at: usize, b: u8) -> usize
     requires { ⌜ at + 1 ≤ length (now text) ⌝ }
     ensures { λ r. ⌜ Continued (now (text .entry)) at (b ∷ []) 1 (now (text .exit)) r ⌝ }
@@ -67,8 +67,8 @@ pub fn print_bytes(text: &mut [u8], at: usize, w: &[u8]) -> usize
 }
 
 fn print_decimal(text: &mut [u8], at: usize, n: u32) -> usize
-    requires { ⌜ at + decimalSize ≤ length (now text) ⌝ }
-    ensures { λ r. ⌜ Continued (now (text .entry)) at (decimal n) decimalSize (now (text .exit)) r ⌝ }
+    requires { ⌜ at + longestDecimal ≤ length (now text) ⌝ }
+    ensures { λ r. ⌜ Continued (now (text .entry)) at (decimal n) longestDecimal (now (text .exit)) r ⌝ }
 {
     let w = decimal_length(n);
     put_digits(text, at, n as u64, 10, w);
@@ -76,8 +76,8 @@ fn print_decimal(text: &mut [u8], at: usize, n: u32) -> usize
 }
 
 fn print_integer(text: &mut [u8], at: usize, z: i32) -> usize
-    requires { ⌜ at + integerSize ≤ length (now text) ⌝ }
-    ensures { λ r. ⌜ Continued (now (text .entry)) at (integer z) integerSize (now (text .exit)) r ⌝ }
+    requires { ⌜ at + longestInteger ≤ length (now text) ⌝ }
+    ensures { λ r. ⌜ Continued (now (text .entry)) at (integer z) longestInteger (now (text .exit)) r ⌝ }
 {
     if z < 0 {
         let next = print_byte(text, at, b'-');
@@ -87,34 +87,34 @@ fn print_integer(text: &mut [u8], at: usize, z: i32) -> usize
 }
 
 fn print_bits(text: &mut [u8], at: usize, bits: u64) -> usize
-    requires { ⌜ at + bitsSize ≤ length (now text) ⌝ }
-    ensures { λ r. ⌜ Continued (now (text .entry)) at (hexadecimal bits) bitsSize (now (text .exit)) r ⌝ }
+    requires { ⌜ at + longestBits ≤ length (now text) ⌝ }
+    ensures { λ r. ⌜ Continued (now (text .entry)) at (hexadecimal bits) longestBits (now (text .exit)) r ⌝ }
 {
     put_digits(text, at, bits, 16, 16);
     at + 16
 }
 
 // A numeral and the byte that ends it.
-pub fn print_decimal_field(text: &mut [u8], at: usize, n: u32, end: u8) -> usize
-    requires { ⌜ at + decimalSize + 1 ≤ length (now text) ⌝ }
-    ensures { λ r. ⌜ Continued (now (text .entry)) at (decimal n ++ end ∷ []) (decimalSize + 1) (now (text .exit)) r ⌝ }
+pub fn print_decimal_field(text: &mut [u8], at: usize, n: u32, ending: u8) -> usize
+    requires { ⌜ at + longestDecimal + 1 ≤ length (now text) ⌝ }
+    ensures { λ r. ⌜ Continued (now (text .entry)) at (decimal n ++ ending ∷ []) (longestDecimal + 1) (now (text .exit)) r ⌝ }
 {
     let next = print_decimal(text, at, n);
-    print_byte(text, next, end)
+    print_byte(text, next, ending)
 }
 
-pub fn print_integer_field(text: &mut [u8], at: usize, z: i32, end: u8) -> usize
-    requires { ⌜ at + integerSize + 1 ≤ length (now text) ⌝ }
-    ensures { λ r. ⌜ Continued (now (text .entry)) at (integer z ++ end ∷ []) (integerSize + 1) (now (text .exit)) r ⌝ }
+pub fn print_integer_field(text: &mut [u8], at: usize, z: i32, ending: u8) -> usize
+    requires { ⌜ at + longestInteger + 1 ≤ length (now text) ⌝ }
+    ensures { λ r. ⌜ Continued (now (text .entry)) at (integer z ++ ending ∷ []) (longestInteger + 1) (now (text .exit)) r ⌝ }
 {
     let next = print_integer(text, at, z);
-    print_byte(text, next, end)
+    print_byte(text, next, ending)
 }
 
-pub fn print_bits_field(text: &mut [u8], at: usize, bits: u64, end: u8) -> usize
-    requires { ⌜ at + bitsSize + 1 ≤ length (now text) ⌝ }
-    ensures { λ r. ⌜ Continued (now (text .entry)) at (hexadecimal bits ++ end ∷ []) (bitsSize + 1) (now (text .exit)) r ⌝ }
+pub fn print_bits_field(text: &mut [u8], at: usize, bits: u64, ending: u8) -> usize
+    requires { ⌜ at + longestBits + 1 ≤ length (now text) ⌝ }
+    ensures { λ r. ⌜ Continued (now (text .entry)) at (hexadecimal bits ++ ending ∷ []) (longestBits + 1) (now (text .exit)) r ⌝ }
 {
     let next = print_bits(text, at, bits);
-    print_byte(text, next, end)
+    print_byte(text, next, ending)
 }

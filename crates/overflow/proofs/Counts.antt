@@ -11,7 +11,7 @@ use lib.Dec.{ltb, eqb}
 use Rattle.codec.specs.Bytes.{number}
 use Rattle.codec.proofs.Cells.{length-cells}
 use Rattle.columns.specs.declared.Kind.{Kind}
-use Rattle.columns.specs.Columns.{Row, columnRows, rowsOf, columnKeys}
+use Rattle.columns.specs.Columns.{Row, columnRowCount, rowsOf, columnKeys}
 use Rattle.record.specs.Section.{Section, find}
 use Rattle.table.specs.Combine.{ofRow, combine, absorb, added}
 use Rattle.table.specs.Calls.{mostRows, overflows}
@@ -134,35 +134,35 @@ module _ (kind : Kind) (ks vs : List ℕ) (ts : List Section) (a : All (λ (s : 
   counts k = count-added k (rowsOf kind ks vs) ts r ∙ ap (λ (l : List ℕ). countIn k ts + occurrences k l) (row-keys kind ks vs)
 
   -- the add makes the count of section k overflow
-  overflows-by : (k : ℕ) → countOverflows ks k (countIn k ts) ≡ true → anyOf overflows after ≡ true
-  overflows-by k e =
+  overflow-if : (k : ℕ) → countOverflows ks k (countIn k ts) ≡ true → anyOf overflows after ≡ true
+  overflow-if k e =
       let h = ltb-true mostRows (countIn k ts + occurrences k (columnKeys ks)) e in
       let l : mostRows < countIn k after = omega (arith, counts k) in
       count-any full k after (omega arith) (lt-ltb mostRows (countIn k after) l)
 
-  -- and so does every section whose count overflows
-  overflow-by : anyOf overflows after ≡ true → (k : ℕ) × (countOverflows ks k (countIn k ts) ≡ true)
-  overflow-by e =
+  -- and where one of the table after the add does, some number's rows and held count make it
+  overflow-only-if : anyOf overflows after ≡ true → (k : ℕ) × (countOverflows ks k (countIn k ts) ≡ true)
+  overflow-only-if e =
       let w = any-count full after (added-counts (rowsOf kind ks vs) ts a) (added-rising ts (rowsOf kind ks vs) r) e in
       let h = ltb-true mostRows (countIn (w .0) after) (w .2) in
       (w .0, lt-ltb mostRows (countIn (w .0) ts + occurrences (w .0) (columnKeys ks)) (omega (arith, counts (w .0))))
 
   -- with few rows, a section of the table
-  pub section-overflow : columnRows ks ≤ mostRows → anyOf (λ (s : Section). countOverflows ks (s .key) (s .count)) ts ≡ anyOf overflows after
-  section-overflow few = same-test _ _ (λ e. let w = any-count (countOverflows ks) ts a r e in overflows-by (w .0) (w .2)) back
+  pub section-overflow : columnRowCount ks ≤ mostRows → anyOf (λ (s : Section). countOverflows ks (s .key) (s .count)) ts ≡ anyOf overflows after
+  section-overflow few = same-test _ _ (λ e. let w = any-count (countOverflows ks) ts a r e in overflow-if (w .0) (w .2)) back
     where
       back : anyOf overflows after ≡ true → anyOf (λ (s : Section). countOverflows ks (s .key) (s .count)) ts ≡ true
       back e =
-          let w = overflow-by e in
+          let w = overflow-only-if e in
           let h = ltb-true mostRows (countIn (w .0) ts + occurrences (w .0) (columnKeys ks)) (w .1) in
-          count-any (countOverflows ks) (w .0) ts (omega (arith, occurrences-le (w .0) (columnKeys ks), length-cells 4 number (columnRows ks) ks)) (w .1)
+          count-any (countOverflows ks) (w .0) ts (omega (arith, occurrences-le (w .0) (columnKeys ks), length-cells 4 number (columnRowCount ks) ks)) (w .1)
 
   -- in any case, the section of a row
   pub row-overflow : All (λ (s : Section). s .count ≤ mostRows) ts → anyOf (λ (k : ℕ). countOverflows ks k (countIn k ts)) (columnKeys ks) ≡ anyOf overflows after
-  row-overflow few = same-test _ _ (λ e. let w = any-number (λ (k : ℕ). countOverflows ks k (countIn k ts)) (columnKeys ks) e in overflows-by (w .0) (w .1)) back
+  row-overflow few = same-test _ _ (λ e. let w = any-number (λ (k : ℕ). countOverflows ks k (countIn k ts)) (columnKeys ks) e in overflow-if (w .0) (w .1)) back
     where
       back : anyOf overflows after ≡ true → anyOf (λ (k : ℕ). countOverflows ks k (countIn k ts)) (columnKeys ks) ≡ true
       back e =
-          let w = overflow-by e in
+          let w = overflow-only-if e in
           let h = ltb-true mostRows (countIn (w .0) ts + occurrences (w .0) (columnKeys ks)) (w .1) in
           number-any (λ (k : ℕ). countOverflows ks k (countIn k ts)) (w .0) (columnKeys ks) (omega (arith, count-few (w .0) ts few)) (w .1)

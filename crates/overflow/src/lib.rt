@@ -70,7 +70,7 @@ fn row_overflows(t: &[u8], g: usize, keys: &[u8]) -> bool
     false
 }
 
-// Whether a section would have more rows than its count can say. A section that the table does not hold can only with 2^32 rows or more.
+// Whether a section would have more rows than its count can say. A section that the table does not hold can have them only where 2^32 rows or more are added.
 pub fn any_overflow(t: &[u8], g: usize, keys: &[u8]) -> bool
     requires { ⌜ T (sound (now t) g) ⌝ }
     ensures { λ r. ⌜ ((kind : Kind) (vs : List ℕ) → r ≡ anyOf overflows (addSections kind (now (t .entry)) g (now (keys .entry)) vs)) ⌝ }

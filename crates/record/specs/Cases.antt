@@ -46,13 +46,13 @@ twice-not : sound (encode b2 ++ encode b2) 2 ≡ false
 unfolding sound soundRecords soundRecord soundTotal isZero rising cells decode encode bytes numberAt number
 twice-not = refl
 
-found : place 7 (recordKeys (records oneRecord 1)) ≡ At 0
+place-found : place 7 (recordKeys (records oneRecord 1)) ≡ At 0
 unfolding has countBelow cells decode encode bytes numberAt number
-found = refl
+place-found = refl
 
-gap : place 8 (recordKeys (records oneRecord 1)) ≡ Gap 1
+place-between : place 8 (recordKeys (records oneRecord 1)) ≡ Gap 1
 unfolding has countBelow cells decode encode bytes numberAt number
-gap = refl
+place-between = refl
 
 -- at the bound, and one past it, on either side
 edge : (soundTotal 1 (record { residue = 2 ^ 39; carry = pos 0 }) ≡ true) × (soundTotal 1 (record { residue = 2 ^ 39 + 1; carry = pos 0 }) ≡ false)

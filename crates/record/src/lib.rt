@@ -76,7 +76,7 @@ pub enum Place {
     Gap(usize),
 }
 
-// 1 for x below y, else 0, by a quotient that is 2 or 1. The compiler makes a jump of a comparison, and none of this.
+// 1 for x below y, else 0, by a quotient that is 2 or 1: that of y - x and 2^33 - 1 by 2^32. The compiler makes a jump of a comparison, and none of this.
 fn is_below(x: u32, y: u32) -> usize
     ensures { λ r. ⌜ r ≡ cond (ltb x y) 1 0 ⌝ }
 {

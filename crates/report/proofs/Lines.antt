@@ -27,13 +27,13 @@ use Rattle.numerals.specs.Numerals.{decimal}
 use Rattle.numerals.specs.Steps.{Continued}
 use Rattle.numerals.proofs.Texts.{then-ended}
 use Rattle.report.specs.Text.{space, lineFeed, lastFields, lineWith, lineText}
-use Rattle.report.specs.Steps.{keyAndCountSize}
+use Rattle.report.specs.Steps.{longestKeyAndCount}
 
 -- ---- a line in the buffer
 
 -- section and row count, then what follows them with its line feed
-pub line-printed : {s s₁ s₂ : List ℕ} {at k r₁ r₂ : ℕ} (key count : ℕ) (last : List ℕ) → Continued s at (decimal key ++ space ++ decimal count ++ space) keyAndCountSize s₁ r₁ → Continued s₁ r₁ (last ++ lineFeed) k s₂ r₂
-    → Continued s at (lineWith key count last) (keyAndCountSize + k) s₂ r₂
+pub line-printed : {s s₁ s₂ : List ℕ} {at k r₁ r₂ : ℕ} (key count : ℕ) (last : List ℕ) → Continued s at (decimal key ++ space ++ decimal count ++ space) longestKeyAndCount s₁ r₁ → Continued s₁ r₁ (last ++ lineFeed) k s₂ r₂
+    → Continued s at (lineWith key count last) (longestKeyAndCount + k) s₂ r₂
 unfolding lineWith
 line-printed key count last start fields = then-ended last lineFeed start fields
 

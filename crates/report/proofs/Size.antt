@@ -23,18 +23,18 @@ use Rattle.table.proofs.Bytes.{Storable}
 use Rattle.finish.specs.Figure.{beyond}
 use Rattle.finish.specs.Finish.{sumFor, figureFor, sumGrounds, figureGrounds, sumOf, figureOf}
 use Rattle.numerals.specs.Numerals.{decimal, integer, hexadecimal}
-use Rattle.numerals.specs.Steps.{integerSize}
+use Rattle.numerals.specs.Steps.{longestInteger}
 use Rattle.numerals.proofs.Size.{length-decimal, length-integer, length-hexadecimal}
-use Rattle.report.specs.Text.{space, lineFeed, headLine, refusalText, figureField, lastFields, lineWith, lineText, tableSize, emptyTable, addText, columnsText, fileText, reportText}
-use Rattle.report.specs.Steps.{refusalSize, refusedFieldsSize, longestLine, textSize}
+use Rattle.report.specs.Text.{space, lineFeed, headLine, refusalText, figureField, lastFields, lineWith, lineText, tableBytes, emptyTable, addText, columnsText, fileText, reportText}
+use Rattle.report.specs.Steps.{longestRefusal, longestRefusedFields, longestLine, longestText}
 use Rattle.report.proofs.Whole.{columns-left}
 
 -- ---- one line
-length-figure : (z : ℤ) → beyond z ≡ false → length (integer z) ≤ integerSize
+length-figure : (z : ℤ) → beyond z ≡ false → length (integer z) ≤ longestInteger
 unfolding beyond
 length-figure z e = length-integer z (omega (arith, ltb-false 2147483647 (natAbs z) e))
 
-length-refusal : (n : ℕ) → n < 2 ^ 32 → length (refusalText n) ≤ refusalSize
+length-refusal : (n : ℕ) → n < 2 ^ 32 → length (refusalText n) ≤ longestRefusal
 unfolding refusalText
 length-refusal n h = omega (arith, length-decimal n h)
 
@@ -42,16 +42,16 @@ length-refusal n h = omega (arith, length-decimal n h)
 figure-in-range : (s : Section) (z : ℤ) → figureOf (some s) ≡ accepted z → beyond z ≡ false
 figure-in-range s z e = rw (← accepted-value (figureGrounds s) (figureFor s) e) (accepted-not 15 (figureGrounds s) (figureFor s) e)
 
-length-last : (s : Section) → length (lastFields (sumOf (some s)) (figureOf (some s))) ≤ refusedFieldsSize
+length-last : (s : Section) → length (lastFields (sumOf (some s)) (figureOf (some s))) ≤ longestRefusedFields
 unfolding lastFields figureField
 length-last s = by (sumOf (some s)) (figureOf (some s)) refl refl
   where
-    after-bits : (x : Float) (l : List ℕ) → length l ≤ refusalSize → length (hexadecimal (toBits binary64 x) ++ space ++ l) ≤ refusedFieldsSize
+    after-bits : (x : Float) (l : List ℕ) → length l ≤ longestRefusal → length (hexadecimal (toBits binary64 x) ++ space ++ l) ≤ longestRefusedFields
     after-bits x l h =
         let bits = hexadecimal (toBits binary64 x) in
         omega (arith, length-append (bits ++ space) l, length-append bits space, length-hexadecimal (toBits binary64 x))
 
-    by : (o : Outcome Float) (f : Outcome ℤ) → sumOf (some s) ≡ o → figureOf (some s) ≡ f → length (lastFields o f) ≤ refusedFieldsSize
+    by : (o : Outcome Float) (f : Outcome ℤ) → sumOf (some s) ≡ o → figureOf (some s) ≡ f → length (lastFields o f) ≤ longestRefusedFields
     by (refused n) f d e = omega (arith, length-refusal n (omega (arith, refused-below 100 (sumGrounds s) (sumFor s) refl d)))
     by (accepted x) (refused n) d e = after-bits x (refusalText n) (length-refusal n (omega (arith, refused-below 100 (figureGrounds s) (figureFor s) refl e)))
     by (accepted x) (accepted z) d e = after-bits x (integer z) (omega (arith, length-figure z (figure-in-range s z e)))
@@ -80,38 +80,38 @@ length-lines [] a = omega arith
 length-lines (t ∷ ts) a = omega (arith, length-append (lineText t) (image lineText ts), length-line t (a .0), length-lines ts (a .1))
 
 -- ---- the whole text
-length-refused : (n : ℕ) → n < 100 → length (refusalText n ++ lineFeed) ≤ textSize
+length-refused : (n : ℕ) → n < 100 → length (refusalText n ++ lineFeed) ≤ longestText
 length-refused n h = omega (arith, length-append (refusalText n) lineFeed, length-refusal n (omega arith))
 
-add-number : (ks vs : List ℕ) {n : ℕ} → addOutcome Double emptyTable 0 ks vs tableSize ≡ refused n → n < 100
+add-number : (ks vs : List ℕ) {n : ℕ} → addOutcome Double emptyTable 0 ks vs tableBytes ≡ refused n → n < 100
 unfolding addGrounds columnGrounds
-add-number ks vs e = refused-below 100 (addGrounds Double emptyTable 0 ks vs tableSize) (length (addSections Double emptyTable 0 ks vs)) refl e
+add-number ks vs e = refused-below 100 (addGrounds Double emptyTable 0 ks vs tableBytes) (length (addSections Double emptyTable 0 ks vs)) refl e
 
 read-number : (f : List ℕ) {n : ℕ} → readOutcome Double f ≡ refused n → n < 100
 unfolding readOutcome readGrounds
 read-number f e = refused-below 100 (readGrounds Double f) (rowCount f) refl e
 
-length-columns : (ks vs : List ℕ) → AreBytes ks → length (columnsText Double ks vs) ≤ textSize
+length-columns : (ks vs : List ℕ) → AreBytes ks → length (columnsText Double ks vs) ≤ longestText
 unfolding columnsText addText headLine
-length-columns ks vs b = by (addOutcome Double emptyTable 0 ks vs tableSize) refl
+length-columns ks vs b = by (addOutcome Double emptyTable 0 ks vs tableBytes) refl
   where
     ts : List Section
     ts = addSections Double emptyTable 0 ks vs
 
-    by : (o : Outcome ℕ) → addOutcome Double emptyTable 0 ks vs tableSize ≡ o → length (addText o ts) ≤ textSize
+    by : (o : Outcome ℕ) → addOutcome Double emptyTable 0 ks vs tableBytes ≡ o → length (addText o ts) ≤ longestText
     by (accepted g) e =
         let l = columns-left ks vs g b e in
         let room : g ≤ 64 = l .room in
         omega (arith, l .groups, length-lines ts (rw (← l .holds) (l .table .fits)))
     by (refused n) e = length-refused n (add-number ks vs e)
 
-pub length-report : (f : List ℕ) → AreBytes f → length (reportText f) ≤ textSize
+pub length-report : (f : List ℕ) → AreBytes f → length (reportText f) ≤ longestText
 unfolding reportText fileText
 length-report f b = by (readOutcome Double f) refl
   where
     key-bytes : (n : ℕ) → readOutcome Double f ≡ accepted n → AreBytes (keyColumn Double f)
     key-bytes n e = rw (key-column Double f e) (take-bytes (4 * n) (drop (length f - keyDistance f) f) (drop-bytes (length f - keyDistance f) f b))
 
-    by : (o : Outcome ℕ) → readOutcome Double f ≡ o → length (fileText o f) ≤ textSize
+    by : (o : Outcome ℕ) → readOutcome Double f ≡ o → length (fileText o f) ≤ longestText
     by (accepted n) e = length-columns (keyColumn Double f) (valueColumn Double f) (key-bytes n e)
     by (refused n) e = length-refused n (read-number f e)

@@ -17,23 +17,23 @@ use Rattle.record.specs.Section.{sections}
 use Rattle.table.specs.Calls.{addSections, addOutcome, addLeaves}
 use Rattle.table.proofs.Accepted.{Left, proper-none, add-left}
 use Rattle.finish.proofs.Outcomes.{never}
-use Rattle.report.specs.Text.{tableSize, refusalText, lineFeed, headLine, lineText, emptyTable, addText, columnsText, fileText, reportText}
+use Rattle.report.specs.Text.{tableBytes, refusalText, lineFeed, headLine, lineText, emptyTable, addText, columnsText, fileText, reportText}
 use Rattle.report.specs.Answer.{printOutcome, printLeaves}
 use Rattle.numerals.specs.Steps.{Continued}
 
 -- what an accepted add to the empty table leaves
-pub columns-left : (ks vs : List ℕ) (g : ℕ) → AreBytes ks → addOutcome Double emptyTable 0 ks vs tableSize ≡ accepted g
-    → Left emptyTable (addSections Double emptyTable 0 ks vs) (addLeaves Double emptyTable 0 ks vs tableSize) g
-columns-left ks vs g a e = add-left emptyTable 0 (proper-none emptyTable) Double ks vs tableSize a e
+pub columns-left : (ks vs : List ℕ) (g : ℕ) → AreBytes ks → addOutcome Double emptyTable 0 ks vs tableBytes ≡ accepted g
+    → Left emptyTable (addSections Double emptyTable 0 ks vs) (addLeaves Double emptyTable 0 ks vs tableBytes) g
+columns-left ks vs g a e = add-left emptyTable 0 (proper-none emptyTable) Double ks vs tableBytes a e
 
-pub columns-accepted : (ks vs : List ℕ) (g : ℕ) → AreBytes ks → addOutcome Double emptyTable 0 ks vs tableSize ≡ accepted g
-    → columnsText Double ks vs ≡ headLine ++ image lineText (sections (addLeaves Double emptyTable 0 ks vs tableSize) g)
+pub columns-accepted : (ks vs : List ℕ) (g : ℕ) → AreBytes ks → addOutcome Double emptyTable 0 ks vs tableBytes ≡ accepted g
+    → columnsText Double ks vs ≡ headLine ++ image lineText (sections (addLeaves Double emptyTable 0 ks vs tableBytes) g)
 unfolding columnsText addText
 columns-accepted ks vs g a e =
     ap (λ o. addText o (addSections Double emptyTable 0 ks vs)) e
     ∙ ap (λ ts. headLine ++ image lineText ts) (sym (columns-left ks vs g a e .holds))
 
-pub columns-refused : (ks vs : List ℕ) (n : ℕ) → addOutcome Double emptyTable 0 ks vs tableSize ≡ refused n → columnsText Double ks vs ≡ refusalText n ++ lineFeed
+pub columns-refused : (ks vs : List ℕ) (n : ℕ) → addOutcome Double emptyTable 0 ks vs tableBytes ≡ refused n → columnsText Double ks vs ≡ refusalText n ++ lineFeed
 unfolding columnsText addText
 columns-refused ks vs n e = ap (λ o. addText o (addSections Double emptyTable 0 ks vs)) e
 
@@ -48,7 +48,7 @@ file-refused f n e = ap (λ o. fileText o f) e
 module _ {s s′ w : List ℕ} {k r : ℕ} (p : Continued s 0 w k s′ r) (fits : k ≤ length s′) where
   -- a text that starts at the front is all that is there
   pub text-length : length w ≡ r
-  text-length = let h : r ≤ length s′ = omega (arith, p .growth) in ap length (sym (p .text)) ∙ length-take-le r s′ h
+  text-length = let h : r ≤ length s′ = omega (arith, p .growth) in ap length (sym (p .continues)) ∙ length-take-le r s′ h
 
   module _ (out : List ℕ) where
     pub does-not-fit : length out < r → (refused 16 ≡ printOutcome out w) × (out ≡ printLeaves out w)
@@ -57,7 +57,7 @@ module _ {s s′ w : List ℕ} {k r : ℕ} (p : Continued s 0 w k s′ r) (fits 
     pub does-fit : (d : List ℕ) → r ≤ length out → d ≡ take r s′ ++ drop r out → (accepted r ≡ printOutcome out w) × (d ≡ printLeaves out w)
     does-fit d h e =
         rw (le-ltb (length out) (length w) (omega (arith, text-length)))
-        (ap accepted (sym text-length), rw text-length (e ∙ ap (λ (l : List ℕ). l ++ drop r out) (p .text)))
+        (ap accepted (sym text-length), rw text-length (e ∙ ap (λ (l : List ℕ). l ++ drop r out) (p .continues)))
 
 -- an accepted printing fits
 pub printed-fits : (out w : List ℕ) (n : ℕ) → accepted n ≡ printOutcome out w → n ≤ length out

@@ -36,7 +36,7 @@ sampleText =
     ∷ 0x32 ∷ 0x20 ∷ 0x31 ∷ 0x20 ∷ 0x33 ∷ 0x46 ∷ 0x43 ∷ 0x30 ∷ 0x30 ∷ 0x30 ∷ 0x30 ∷ 0x30 ∷ 0x30 ∷ 0x30 ∷ 0x30 ∷ 0x30 ∷ 0x30 ∷ 0x30 ∷ 0x30 ∷ 0x30 ∷ 0x20 ∷ 0x31 ∷ 0x33 ∷ 0x0A
     ∷ []
 
--- section 5 with two rows 7FEFFFFFFFFFFFFF, section 4294967295 with the row 21474836.5 and section 0 with the row -0.125, the keys falling
+-- section 5 with two rows 7FEFFFFFFFFFFFFF, section 4294967295 with the row 21474836.5 and section 0 with the row -0.25, the keys falling
 mixed : List ℕ
 mixed = fileOf (4294967295 ∷ 5 ∷ 5 ∷ 0 ∷ []) (0x41747AE148000000 ∷ 0x7FEFFFFFFFFFFFFF ∷ 0x7FEFFFFFFFFFFFFF ∷ 0xBFD0000000000000 ∷ [])
 

@@ -51,7 +51,7 @@ lastFields (refused n) f = refusalText n
 
 -- a line of section, row count and what follows them
 unfoldable pub lineWith : ℕ → ℕ → List ℕ → List ℕ
-lineWith key count last = decimal key ++ space ++ decimal count ++ space ++ last ++ lineFeed
+lineWith key count fields = decimal key ++ space ++ decimal count ++ space ++ fields ++ lineFeed
 
 -- a section's line
 unfoldable pub lineText : Section → List ℕ
@@ -62,12 +62,12 @@ abbrev pub tableGroups : ℕ
 tableGroups = 64
 
 -- the bytes of that table, and of its work buffer
-abbrev pub tableSize : ℕ
-tableSize = tableGroups * 64
+abbrev pub tableBytes : ℕ
+tableBytes = tableGroups * 64
 
 -- an empty table
 abbrev pub emptyTable : List ℕ
-emptyTable = replicate tableSize 0
+emptyTable = replicate tableBytes 0
 
 -- what the add of two columns prints: only its refusal, or the head line and a line for each section, the keys rising
 unfoldable pub addText : Outcome ℕ → List Section → List ℕ
@@ -76,7 +76,7 @@ addText (refused n) ts = refusalText n ++ lineFeed
 
 -- what the add of two columns to an empty table prints
 unfoldable pub columnsText : Kind → List ℕ → List ℕ → List ℕ
-columnsText kind ks vs = addText (addOutcome kind emptyTable 0 ks vs tableSize) (addSections kind emptyTable 0 ks vs)
+columnsText kind ks vs = addText (addOutcome kind emptyTable 0 ks vs tableBytes) (addSections kind emptyTable 0 ks vs)
 
 -- what a file prints: only its refusal, or what the add of its columns prints
 unfoldable pub fileText : Outcome ℕ → List ℕ → List ℕ

@@ -13,11 +13,11 @@ ghost use Rattle.record.specs.Sound.{sound, soundRecord};
 ghost use Rattle.finish.specs.Answer.{sumAnswer};
 ghost use Rattle.finish.specs.Steps.{FiniteSum};
 ghost use Rattle.numerals.specs.Numerals.{decimal, hexadecimal};
-ghost use Rattle.numerals.specs.Steps.{Continued, bitsSize};
+ghost use Rattle.numerals.specs.Steps.{Continued, longestBits};
 ghost use Rattle.columns.specs.declared.Kind.the-variants.{Double};
 ghost use Rattle.report.specs.Text.{tableGroups, space, lineFeed, refusalText, lastFields, lineWith, lineText, headLine, columnsText, reportText};
 ghost use Rattle.report.specs.Answer.{printedAnswer, printOutcome, printLeaves};
-ghost use Rattle.report.specs.Steps.{refusalSize, keyAndCountSize, lineSize, refusedFieldsSize, longestLine, textSize};
+ghost use Rattle.report.specs.Steps.{longestRefusal, longestKeyAndCount, longestFinishedLine, longestRefusedFields, longestLine, longestText};
 use finish::FinishedLine;
 use finish::LineAnswer;
 use finish::SectionSum;
@@ -26,10 +26,10 @@ use record::Record;
 use table::TableAnswer;
 
 // The longest text.
-pub const TEXT_SIZE: usize = 4096;
+pub const LONGEST_TEXT: usize = 4096;
 
 // The bytes of a table of 64 groups, and of its work buffer.
-const TABLE_SIZE: usize = 64 * 64;
+const TABLE_BYTES: usize = 64 * 64;
 
 // What printing into a lent buffer answers: the text's length, or that the buffer is shorter.
 pub enum Printed {
@@ -39,8 +39,8 @@ pub enum Printed {
 
 // "refused", a refusal's number and a line feed.
 fn print_refusal(text: &mut [u8], at: usize, n: u32) -> usize
-    requires { ⌜ at + refusalSize + 1 ≤ length (now text) ⌝ }
-    ensures { λ r. ⌜ Continued (now (text .entry)) at (refusalText n ++ lineFeed) (refusalSize + 1) (now (text .exit)) r ⌝ }
+    requires { ⌜ at + longestRefusal + 1 ≤ length (now text) ⌝ }
+    ensures { λ r. ⌜ Continued (now (text .entry)) at (refusalText n ++ lineFeed) (longestRefusal + 1) (now (text .exit)) r ⌝ }
 {
     let next = numerals::print_bytes(text, at, b"refused ");
     numerals::print_decimal_field(text, next, n, b'\n')
@@ -48,8 +48,8 @@ fn print_refusal(text: &mut [u8], at: usize, n: u32) -> usize
 
 // Section and row count, a space after each.
 fn print_key_and_count(text: &mut [u8], at: usize, key: u32, count: u32) -> usize
-    requires { ⌜ at + keyAndCountSize ≤ length (now text) ⌝ }
-    ensures { λ r. ⌜ Continued (now (text .entry)) at (decimal key ++ space ++ decimal count ++ space) keyAndCountSize (now (text .exit)) r ⌝ }
+    requires { ⌜ at + longestKeyAndCount ≤ length (now text) ⌝ }
+    ensures { λ r. ⌜ Continued (now (text .entry)) at (decimal key ++ space ++ decimal count ++ space) longestKeyAndCount (now (text .exit)) r ⌝ }
 {
     let next = numerals::print_decimal_field(text, at, key, b' ');
     numerals::print_decimal_field(text, next, count, b' ')
@@ -57,9 +57,9 @@ fn print_key_and_count(text: &mut [u8], at: usize, key: u32, count: u32) -> usiz
 
 // A finished line.
 fn print_line(text: &mut [u8], at: usize, line: FinishedLine) -> usize
-    requires { ⌜ at + lineSize ≤ length (now text) ⌝ }
+    requires { ⌜ at + longestFinishedLine ≤ length (now text) ⌝ }
     requires { ⌜ T (finite (line .sum)) ⌝ }
-    ensures { λ r. ⌜ Continued (now (text .entry)) at (lineWith (line .key) (line .count) (lastFields (accepted (line .sum)) (accepted (line .figure)))) lineSize (now (text .exit)) r ⌝ }
+    ensures { λ r. ⌜ Continued (now (text .entry)) at (lineWith (line .key) (line .count) (lastFields (accepted (line .sum)) (accepted (line .figure)))) longestFinishedLine (now (text .exit)) r ⌝ }
 {
     let a = print_key_and_count(text, at, line.key, line.count);
     let b = numerals::print_bits_field(text, a, f64::to_bits(line.sum), b' ');
@@ -68,9 +68,9 @@ fn print_line(text: &mut [u8], at: usize, line: FinishedLine) -> usize
 
 // The end of a line that is not finished: the sum and the figure's refusal n, or a refused sum in place of both, and a line feed.
 fn print_refused_fields(text: &mut [u8], at: usize, sum: SectionSum, n: u32) -> usize
-    requires { ⌜ at + refusedFieldsSize + 1 ≤ length (now text) ⌝ }
+    requires { ⌜ at + longestRefusedFields + 1 ≤ length (now text) ⌝ }
     requires { ⌜ FiniteSum sum ⌝ }
-    ensures { λ r. ⌜ Continued (now (text .entry)) at (lastFields (sumAnswer sum) (refused n) ++ lineFeed) (refusedFieldsSize + 1) (now (text .exit)) r ⌝ }
+    ensures { λ r. ⌜ Continued (now (text .entry)) at (lastFields (sumAnswer sum) (refused n) ++ lineFeed) (longestRefusedFields + 1) (now (text .exit)) r ⌝ }
 {
     match sum {
         SectionSum::Finite(x) => {
@@ -136,9 +136,9 @@ fn print_sections(text: &mut [u8], at: usize, table: &[u8], g: usize) -> usize
 
 // The head line and a line for each section.
 fn print_table(text: &mut [u8], table: &[u8], g: usize) -> usize
-    requires { ⌜ (g ≤ tableGroups) × (textSize ≤ length (now text)) ⌝ }
+    requires { ⌜ (g ≤ tableGroups) × (longestText ≤ length (now text)) ⌝ }
     requires { ⌜ T (sound (now table) g) ⌝ }
-    ensures { λ r. ⌜ Continued (now (text .entry)) 0 (headLine ++ image lineText (sections (now (table .entry)) g)) textSize (now (text .exit)) r ⌝ }
+    ensures { λ r. ⌜ Continued (now (text .entry)) 0 (headLine ++ image lineText (sections (now (table .entry)) g)) longestText (now (text .exit)) r ⌝ }
 {
     let next = numerals::print_bytes(text, 0, b"section rows bits hundredths\n");
     print_sections(text, next, table, g)
@@ -146,11 +146,11 @@ fn print_table(text: &mut [u8], table: &[u8], g: usize) -> usize
 
 // What the columns print.
 fn print_columns(text: &mut [u8], keys: &[u8], values: &[u8]) -> usize
-    requires { ⌜ textSize ≤ length (now text) ⌝ }
-    ensures { λ r. ⌜ Continued (now (text .entry)) 0 (columnsText Double (now (keys .entry)) (now (values .entry))) textSize (now (text .exit)) r ⌝ }
+    requires { ⌜ longestText ≤ length (now text) ⌝ }
+    ensures { λ r. ⌜ Continued (now (text .entry)) 0 (columnsText Double (now (keys .entry)) (now (values .entry))) longestText (now (text .exit)) r ⌝ }
 {
-    let mut table = [0u8; TABLE_SIZE];
-    let mut work = [0u8; TABLE_SIZE];
+    let mut table = [0u8; TABLE_BYTES];
+    let mut work = [0u8; TABLE_BYTES];
     match add::add(&mut table, 0, keys, values, &mut work) {
         TableAnswer::Groups(g) => print_table(text, &table, g),
         TableAnswer::Refused(r) => print_refusal(text, 0, refusal::number_of(r)),
@@ -159,11 +159,11 @@ fn print_columns(text: &mut [u8], keys: &[u8], values: &[u8]) -> usize
 
 // What the file prints.
 fn print_file(text: &mut [u8], file: &[u8]) -> usize
-    requires { ⌜ textSize ≤ length (now text) ⌝ }
-    ensures { λ r. ⌜ Continued (now (text .entry)) 0 (reportText (now (file .entry))) textSize (now (text .exit)) r ⌝ }
+    requires { ⌜ longestText ≤ length (now text) ⌝ }
+    ensures { λ r. ⌜ Continued (now (text .entry)) 0 (reportText (now (file .entry))) longestText (now (text .exit)) r ⌝ }
 {
     match patch::read(file) {
-        Reading::Rows(_) => print_columns(text, patch::keys(file), patch::values(file)),
+        Reading::RowCount(_) => print_columns(text, patch::keys(file), patch::values(file)),
         Reading::Refused(r) => print_refusal(text, 0, refusal::number_of(r)),
     }
 }
@@ -173,7 +173,7 @@ pub fn report(file: &[u8], out: &mut [u8]) -> Printed
     ensures answer { λ r. ⌜ printedAnswer r ≡ printOutcome (now (out .entry)) (reportText (now (file .entry))) ⌝ }
     ensures content { λ r. ⌜ now (out .exit) ≡ printLeaves (now (out .entry)) (reportText (now (file .entry))) ⌝ }
 {
-    let mut text = [0u8; TEXT_SIZE];
+    let mut text = [0u8; LONGEST_TEXT];
     let n = print_file(&mut text, file);
     if out.len() < n {
         return Printed::TooShort;

@@ -26,7 +26,7 @@ fn either(a: bool, b: bool) -> bool
     if a { true } else { b }
 }
 
-// Whether k * 2^50 + s is at most count * 2^39: neither side need fit 64 bits.
+// Whether k * 2^50 + s is at most count * 2^39: neither side need fit 64 bits. 2^50 is 2,048 times 2^39.
 fn at_most(k: u64, s: u64, count: u32) -> bool
     requires { ⌜ s ≤ carryBase ⌝ }
     ensures { λ r. ⌜ r ≡ leb (k * carryBase + s) (count * levelBound) ⌝ }

@@ -9,7 +9,7 @@ returns c =
     let hy = c .before .before .before .high-digits2 .ensures in
     let hz = c .before .before .before .before .before .high-digits .ensures in
     let g = c .propagate .ensures in
-    record { normal = record { limb0 = g .limb0; limb1 = g .limb1; limb2 = g .limb2; limb3 = last-lt _ _ (g .limb3) (hx .0) }; same = stacked-same _ _ _ _ _ _ _ _ _ _ (hx .1) (hy .1) (hz .1) (g .same) }
+    record { reduced = record { limb0 = g .limb0; limb1 = g .limb1; limb2 = g .limb2; limb3 = last-lt _ _ (g .limb3) (hx .0) }; same = stacked-same _ _ _ _ _ _ _ _ _ _ (hx .1) (hy .1) (hz .1) (g .same) }
 
 pub raised-limbs-spec : {M : Type 1} → statement M
 raised-limbs-spec =

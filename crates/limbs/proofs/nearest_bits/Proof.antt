@@ -11,7 +11,7 @@ assemble-requires : tie.Need-assemble-requires
 assemble-requires c κs =
     let s = c .before .before .before .before in
     let r = c .before .before .before .normalise in
-    let q : c .before .leading-digits .result ≤ 2 ^ 53 = le-trans (le-of-eq (c .before .leading-digits .ensures)) (leading-le (r .result .limbs) (r .ensures .0 .normal)) in
+    let q : c .before .leading-digits .result ≤ 2 ^ 53 = le-trans (le-of-eq (c .before .leading-digits .ensures)) (leading-le (r .result .limbs) (r .ensures .0 .reduced)) in
     (field-lt (s .args .e) (r .result .by) (s .pre .1 .0 .1), sum-fits (s .args .e) (r .result .by) (c .before .leading-digits .result) (s .pre .1 .0 .1) q .fits)
 
 returns : tie.Need-returns

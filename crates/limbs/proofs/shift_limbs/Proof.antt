@@ -9,13 +9,13 @@ returns-2 : tie.Need-returns-2
 returns-2 c =
     let a = c .before .before .args .t1 in
     let g = c .before .before .pre .0 in
-    (record { normal = record { limb0 = lit< tt; limb1 = g .limb0; limb2 = g .limb1; limb3 = g .limb2 }; same = limbs-one (getD a 0 0) (getD a 1 0) (getD a 2 0) (getD a 3 0) (c .before .if1 .left) }, (c .if2 .taken, lit≤ tt))
+    (record { reduced = record { limb0 = lit< tt; limb1 = g .limb0; limb2 = g .limb1; limb3 = g .limb2 }; same = limbs-one (getD a 0 0) (getD a 1 0) (getD a 2 0) (getD a 3 0) (c .before .if1 .left) }, (c .if2 .taken, lit≤ tt))
 
 returns-3 : tie.Need-returns-3
 returns-3 c =
     let a = c .before .before .before .args .t1 in
     let g = c .before .before .before .pre .0 in (
-      record { normal = record { limb0 = lit< tt; limb1 = lit< tt; limb2 = g .limb0; limb3 = g .limb1 }; same = limbs-two (getD a 0 0) (getD a 1 0) (getD a 2 0) (getD a 3 0) (c .before .before .if1 .left) (c .before .if2 .left) },
+      record { reduced = record { limb0 = lit< tt; limb1 = lit< tt; limb2 = g .limb0; limb3 = g .limb1 }; same = limbs-two (getD a 0 0) (getD a 1 0) (getD a 2 0) (getD a 3 0) (c .before .before .if1 .left) (c .before .if2 .left) },
       (c .if3 .taken, lit≤ tt),
     )
 
@@ -24,7 +24,7 @@ returns-4 c =
     let a = c .before .before .before .args .t1 in
     let p = c .before .before .before .pre in (
       record {
-        normal = record { limb0 = lit< tt; limb1 = lit< tt; limb2 = lit< tt; limb3 = p .0 .limb0 };
+        reduced = record { limb0 = lit< tt; limb1 = lit< tt; limb2 = lit< tt; limb3 = p .0 .limb0 };
         same = limbs-three (getD a 0 0) (getD a 1 0) (getD a 2 0) (getD a 3 0) (c .before .before .if1 .left) (c .before .if2 .left) (c .if3 .left);
       },
       (last-pos (getD a 0 0) (getD a 1 0) (getD a 2 0) (getD a 3 0) (p .1) (c .before .before .if1 .left) (c .before .if2 .left) (c .if3 .left), lit≤ tt),

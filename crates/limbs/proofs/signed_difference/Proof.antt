@@ -2,7 +2,7 @@ use Prim.Native.Nat.{suc, _<_, _≤_, _^_}
 use native.Mathlib.Nat.{le-of-suc-le-suc, lt-of-not-le, not-le-of-lt, le-of-lt}
 use lib.ListN.{getD}
 use Rattle.limbs.specs.Limbs.{valueOf}
-use Rattle.limbs.proofs.Addition.{difference-normal, difference-up, difference-less, difference-pos}
+use Rattle.limbs.proofs.Addition.{difference-reduced, difference-up, difference-less, difference-pos}
 use borrow.Author.Needs.{needs}
 use Rattle.limbs.proofs.signed_difference.Statement.{statement}
 use Rattle.limbs.proofs.signed_difference.Tie as tie
@@ -11,7 +11,7 @@ returns : tie.Need-returns
 returns c =
     let s = c .before .before .before in
     let d = c .before .before .difference-with-bias in
-    rw (c .without-bias .ensures) (difference-normal (s .args .p) (s .args .q) (d .result) (d .ensures) (s .pre .0) (c .before .if1 .taken), difference-up (s .args .p) (s .args .q) (d .result) (d .ensures) (c .before .if1 .taken))
+    rw (c .without-bias .ensures) (difference-reduced (s .args .p) (s .args .q) (d .result) (d .ensures) (s .pre .0) (c .before .if1 .taken), difference-up (s .args .p) (s .args .q) (d .result) (d .ensures) (c .before .if1 .taken))
 
 -- where the first difference shows the second number to be the larger
 less : (c : tie.After-difference-with-bias2) → valueOf (c .before .before .before .args .p) < valueOf (c .before .before .before .args .q)
@@ -34,7 +34,7 @@ returns-2 c =
     let d = c .before .difference-with-bias2 in
     let h = biased (c .before) in
     let e = difference-up (s .args .q) (s .args .p) (d .result) (d .ensures) h in
-    rw (c .without-bias2 .ensures) (difference-normal (s .args .q) (s .args .p) (d .result) (d .ensures) (s .pre .1) h, (e, difference-pos _ _ _ e (less (c .before))))
+    rw (c .without-bias2 .ensures) (difference-reduced (s .args .q) (s .args .p) (d .result) (d .ensures) (s .pre .1) h, (e, difference-pos _ _ _ e (less (c .before))))
 
 pub signed-difference-spec : {M : Type 1} → statement M
 signed-difference-spec =

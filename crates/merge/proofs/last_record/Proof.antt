@@ -24,7 +24,7 @@ returns c =
     let w = s .pre .0 in
     let t = c .before .if1 .taken in
     c .get .ensures
-    ∙ record-in (a .second .now) (a .j) (a .e .j) (s .pre .1 .1 .0) (omega (arith, w .fewer, w .second))
+    ∙ record-in (a .second .now) (a .j) (a .e .j) (s .pre .1 .1 .0) (omega (arith, w .fewer, w .no-more₂))
     ∙ ap recordOf (sym (of-second (a .first .now) (a .second .now) (a .i) (a .j) (a .e) t))
 
 returns-2 : tie.Need-returns-2
@@ -33,7 +33,7 @@ returns-2 c =
     let a = s .args in
     let n = c .before .before .before .if1 .left in
     c .get2 .ensures
-    ∙ record-in (a .first .now) (a .i) (a .e .i) (s .pre .1 .0) (lt-of-le-ne (s .pre .0 .first) n)
+    ∙ record-in (a .first .now) (a .i) (a .e .i) (s .pre .1 .0) (lt-of-le-ne (s .pre .0 .no-more₁) n)
     ∙ ap recordOf (sym (of-first (a .first .now) (a .second .now) (a .i) (a .j) (a .e) n (c .before .if2 .taken)))
 
 returns-3 : tie.Need-returns-3
@@ -53,9 +53,9 @@ combined-requires c κs =
     let n = c .before .before .if2 .left in
     let k = ltb-false mostRows (lastSection (a .first .now) (a .i) (a .second .now) (a .j) (a .e) .count) (s .pre .1 .1 .1) in
     rw (c .before .get3 .ensures, c .get4 .ensures) (
-      sound-record-at (a .first .now) (a .i) (a .e .i) (s .pre .1 .0) (lt-of-le-ne (s .pre .0 .first) m),
+      sound-record-at (a .first .now) (a .i) (a .e .i) (s .pre .1 .0) (lt-of-le-ne (s .pre .0 .no-more₁) m),
       (
-        sound-record-at (a .second .now) (a .j) (a .e .j) (s .pre .1 .1 .0) (lt-of-le-ne (s .pre .0 .second) n),
+        sound-record-at (a .second .now) (a .j) (a .e .j) (s .pre .1 .1 .0) (lt-of-le-ne (s .pre .0 .no-more₂) n),
         omega (arith, count-both (a .first .now) (a .second .now) (a .i) (a .j) (a .e) m n),
       ),
     )

@@ -7,8 +7,8 @@ use borrow.Author.Needs.{needs}
 use Rattle.merge.proofs.merge.Statement.{statement}
 use Rattle.merge.proofs.merge.Tie as tie
 
-write-back-requires : tie.Need-write-back-requires
-write-back-requires c κs =
+write-union-requires : tie.Need-write-union-requires
+write-union-requires c κs =
     let a = c .before .before .before .before .before .before .before .before .args in
     let n = c .before .before .n .given .0 .0 in
     let w = accepted-says (a .first .now) (a .g1) (a .second .now) (a .g2) n (sym (ap tableAnswer (c .before .before .n .given .1)) ∙ c .before .before .before .before .decide .ensures) in
@@ -19,7 +19,7 @@ returns c =
     let m = c .before .before .before .before .before in
     let a = m .before .before .before .before .before .before .args in
     let e = sym (ap tableAnswer (m .n .given .1)) ∙ m .before .before .decide .ensures in
-    (e, leaves-written (a .first .now) (a .g1) (a .second .now) (a .g2) e (c .before .before .write-back .ensures))
+    (e, leaves-written (a .first .now) (a .g1) (a .second .now) (a .g2) e (c .before .before .write-union .ensures))
 
 returns-2 : tie.Need-returns-2
 returns-2 c =
@@ -31,5 +31,5 @@ returns-2 c =
 pub merge-spec : {M : Type 1} → statement M
 merge-spec =
     tie.close
-    (tie.spec (λ c κs. search needs) (λ c. search needs) write-back-requires (λ c. search needs) (λ c. search needs) returns
+    (tie.spec (λ c κs. search needs) (λ c. search needs) write-union-requires (λ c. search needs) (λ c. search needs) returns
     (λ c. search needs) returns-2)

@@ -13,7 +13,7 @@ use Rattle.record.proofs.Sound.{sound-parts}
 use Rattle.table.specs.Calls.{mostRows, overflows, mergeSections}
 use Rattle.lists.specs.Lists.{anyOf}
 use Rattle.merge.specs.declared.Ends.{Ends}
-use Rattle.merge.specs.Steps.{lastSection, Back}
+use Rattle.merge.specs.Steps.{lastSection, StepBack}
 use Rattle.table.proofs.State.{length-sections}
 use Rattle.merge.proofs.State.{none-overflow}
 use Rattle.merge.proofs.Walk.{length-back, any-back, merge-none}
@@ -30,7 +30,7 @@ abbrev μ-loop : tie.MeasureT-loop
 μ-loop first g1 second g2 i₀ j₀ n₀ overflow₀ i j n overflow = i + j
 
 -- what one section more says of a section with too many rows; `rest` is what the sections before it say
-module _ {s s′ : List ℕ} {i j : ℕ} {e : Ends} (b : Back s i s′ j e) (overflow : Bool) {r : ℕ} (q : r ≡ lastSection s i s′ j e .count) {overflow′ all : Bool} where
+module _ {s s′ : List ℕ} {i j : ℕ} {e : Ends} (b : StepBack s i s′ j e) (overflow : Bool) {r : ℕ} (q : r ≡ lastSection s i s′ j e .count) {overflow′ all : Bool} where
   taken : mostRows < r → overflow′ ≡ true → (overflow || anyOf overflows (mergeSections s i s′ j)) ≡ all
       → (overflow′ || anyOf overflows (mergeSections s (e .i) s′ (e .j))) ≡ all
   taken h w v =

@@ -4,14 +4,14 @@ use mathlib.Core.Path.{_≡_, refl}
 use native.Mathlib.Omega.{arith}
 use lib.ListN.{length}
 use Rattle.numerals.specs.Numerals.{decimal}
-use Rattle.numerals.specs.Steps.{decimalSize}
+use Rattle.numerals.specs.Steps.{longestDecimal}
 use Rattle.numerals.proofs.Digits.{length-one, length-more}
 use Rattle.numerals.proofs.Size.{length-decimal}
 use Rattle.numerals.proofs.decimal_length.Statement.{statement}
 use Rattle.numerals.proofs.decimal_length.Tie as tie
 
 abbrev Inv-loop : tie.InvT-loop
-Inv-loop n y₀ w₀ y w = (length (decimal y) + w ≡ length (decimal n) + 1) × (length (decimal n) ≤ decimalSize)
+Inv-loop n y₀ w₀ y w = (length (decimal y) + w ≡ length (decimal n) + 1) × (length (decimal n) ≤ longestDecimal)
 
 abbrev μ-loop : tie.MeasureT-loop
 μ-loop n y₀ w₀ y w = y

@@ -32,7 +32,7 @@ iteration s₀ at w s i fits inv h =
 
 done : (s₀ : List ℕ) (at : ℕ) (w s : List ℕ) (i : ℕ) → Inv-loop s₀ at w 0 s i → i ≡ length w → Continued s₀ at w (length w) s (at + i)
 done s₀ at w s i inv e =
-    record { text = inv .2 ∙ ap (λ (l : List ℕ). take at s₀ ++ l) (rw e (take-length w)); growth = omega arith }
+    record { continues = inv .2 ∙ ap (λ (l : List ℕ). take at s₀ ++ l) (rw e (take-length w)); growth = omega arith }
 
 loop-holds : tie.Need-loop-holds Inv-loop μ-loop
 loop-holds c = (omega arith, refl, begin (c .args .text .now) (c .args .at))

@@ -9,7 +9,7 @@ use Rattle.refusal.specs.Number.{numberOf}
 use Rattle.columns.specs.declared.Kind.the-variants.{Double}
 use Rattle.table.specs.Answer.{tableAnswer}
 use Rattle.table.specs.Calls.{addOutcome}
-use Rattle.report.specs.Text.{tableSize, emptyTable}
+use Rattle.report.specs.Text.{tableBytes, emptyTable}
 use Rattle.numerals.proofs.Texts.{longer}
 use Rattle.report.proofs.Whole.{columns-left, columns-accepted, columns-refused}
 use borrow.Author.Needs.{needs}
@@ -28,10 +28,10 @@ module _ (d : tie.After-add) where
   bytes-here i = d .before .before .before .before .shared-slice-known .given i .fits
 
   -- of its own, so that a table of another size is refused by that size
-  capacity-here : length (d .add .last .0) ≡ tableSize
+  capacity-here : length (d .add .last .0) ≡ tableBytes
   capacity-here = d .add .kept .0
 
-  outcome-here : addOutcome Double emptyTable 0 keys values tableSize ≡ tableAnswer (d .add .result)
+  outcome-here : addOutcome Double emptyTable 0 keys values tableBytes ≡ tableAnswer (d .add .result)
   outcome-here = sym (d .add .ensures .0)
 
 print-table-requires : tie.Need-print-table-requires

@@ -10,7 +10,7 @@ use Rattle.patch.specs.Answer.{readAnswer}
 use Rattle.numerals.specs.Steps.{Continued}
 use Rattle.numerals.proofs.Texts.{longer}
 use Rattle.report.specs.Text.{refusalText, lineFeed}
-use Rattle.report.specs.Steps.{refusalSize}
+use Rattle.report.specs.Steps.{longestRefusal}
 use Rattle.report.proofs.Whole.{file-accepted, file-refused}
 use borrow.Author.Needs.{needs}
 use Rattle.report.proofs.print_file.Statement.{statement}
@@ -38,7 +38,7 @@ returns-2 c =
     let r = e .r .given in
     let p = c .before .before .print-refusal in
     let n = c .before .before .before .number-of in
-    let t : Continued (d .before .before .before .args .text .now) 0 (refusalText (n .result) ++ lineFeed) (refusalSize + 1) (p .last .0) (p .result) = p .ensures in
+    let t : Continued (d .before .before .before .args .text .now) 0 (refusalText (n .result) ++ lineFeed) (longestRefusal + 1) (p .last .0) (p .result) = p .ensures in
     rw (file-refused (file d) (numberOf (r .0 .0)) (outcome-here d ∙ ap readAnswer (r .1)), ← n .ensures) (longer t (omega arith))
 
 pub print-file-spec : {M : Type 1} → statement M

@@ -9,7 +9,7 @@ use Rattle.numerals.specs.Numerals.{decimal, integer}
 use Rattle.numerals.specs.Steps.{Continued}
 use Rattle.numerals.proofs.Texts.{then-ended}
 use Rattle.report.specs.Text.{space, lineFeed, lastFields, figureField}
-use Rattle.report.specs.Steps.{keyAndCountSize}
+use Rattle.report.specs.Steps.{longestKeyAndCount}
 use Rattle.report.proofs.Lines.{line-printed}
 use borrow.Author.Needs.{needs}
 use Rattle.report.proofs.print_line.Statement.{statement}
@@ -26,7 +26,7 @@ module _ (c : tie.After-print-integer-field) where
   abbrev start : tie.Start
   start = start-printed .before .before .before
 
-  numbers-printed : Continued (start .args .text .now) (start .args .at) (decimal (start .args .line .key) ++ space ++ decimal (start .args .line .count) ++ space) keyAndCountSize (start-printed .print-key-and-count .last .0) (start-printed .print-key-and-count .result)
+  numbers-printed : Continued (start .args .text .now) (start .args .at) (decimal (start .args .line .key) ++ space ++ decimal (start .args .line .count) ++ space) longestKeyAndCount (start-printed .print-key-and-count .last .0) (start-printed .print-key-and-count .result)
   numbers-printed = start-printed .print-key-and-count .ensures
 
   abbrev figure : ℤ

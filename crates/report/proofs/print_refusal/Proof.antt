@@ -1,7 +1,7 @@
 use Prim.Native.Nat.{ℕ, _+_}
 use mathlib.Core.List.{List, _++_}
 use Rattle.numerals.specs.Numerals.{decimal}
-use Rattle.numerals.specs.Steps.{Continued, decimalSize}
+use Rattle.numerals.specs.Steps.{Continued, longestDecimal}
 use Rattle.numerals.proofs.Texts.{then-ended}
 use Rattle.report.specs.Text.{refusalText, lineFeed}
 use borrow.Author.Needs.{needs}
@@ -16,7 +16,7 @@ module _ (c : tie.After-print-decimal-field) where
   abbrev number : List ℕ
   number = decimal (word-printed .before .before .before .before .args .n)
 
-  number-printed : Continued (word-printed .print-bytes .last .0) (word-printed .print-bytes .result) (number ++ lineFeed) (decimalSize + 1) (c .print-decimal-field .last .0) (c .print-decimal-field .result)
+  number-printed : Continued (word-printed .print-bytes .last .0) (word-printed .print-bytes .result) (number ++ lineFeed) (longestDecimal + 1) (c .print-decimal-field .last .0) (c .print-decimal-field .result)
   number-printed = c .print-decimal-field .ensures
 
 returns : tie.Need-returns

@@ -8,7 +8,7 @@ use Rattle.finish.proofs.Fraction.{not-nan}
 use Rattle.numerals.specs.Steps.{Continued}
 use Rattle.numerals.proofs.Texts.{then-ended, longer}
 use Rattle.report.specs.Text.{lineFeed, refusalText, lastFields, figureField}
-use Rattle.report.specs.Steps.{refusalSize}
+use Rattle.report.specs.Steps.{longestRefusal}
 use borrow.Author.Needs.{needs}
 use Rattle.report.proofs.print_refused_fields.Statement.{statement}
 use Rattle.report.proofs.print_refused_fields.Tie as tie
@@ -18,7 +18,7 @@ module _ (c : tie.After-print-refusal) where
   abbrev sum-printed : tie.After-print-bits-field
   sum-printed = c .before .before .before .before
 
-  figure-printed : Continued (sum-printed .print-bits-field .last .0) (sum-printed .print-bits-field .result) (refusalText (sum-printed .before .before .before .before .before .before .args .n) ++ lineFeed) (refusalSize + 1) (c .print-refusal .last .0) (c .print-refusal .result)
+  figure-printed : Continued (sum-printed .print-bits-field .last .0) (sum-printed .print-bits-field .result) (refusalText (sum-printed .before .before .before .before .before .before .args .n) ++ lineFeed) (longestRefusal + 1) (c .print-refusal .last .0) (c .print-refusal .result)
   figure-printed = c .print-refusal .ensures
 
 float-to-bits-print-bits-field : tie.Need-float-to-bits-print-bits-field

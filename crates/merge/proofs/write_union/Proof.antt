@@ -1,10 +1,10 @@
--- `write_back` writes the sections from the last one on.
+-- `write_union` writes the sections from the last one on.
 use Prim.Native.Nat.{_+_}
 use mathlib.Core.Path.{refl}
 use native.Mathlib.Omega.{arith}
 use Rattle.merge.proofs.Writing.{Unwritten, places-left, few-last, left-less, finished}
-use Rattle.merge.proofs.write_back.Statement.{statement}
-use Rattle.merge.proofs.write_back.Tie as tie
+use Rattle.merge.proofs.write_union.Statement.{statement}
+use Rattle.merge.proofs.write_union.Tie as tie
 
 abbrev Inv-loop : tie.InvT-loop
 Inv-loop first₀ g1 second g2 groups a₀ b₀ k₀ first a b k = Unwritten first₀ g1 second g2 first a b k
@@ -57,7 +57,7 @@ same-length c = c .before .loop .inv .long
 returns : tie.Need-returns Inv-loop μ-loop
 returns c = finished (c .before .loop .inv) (c .loop-test .left)
 
-pub write-back-spec : {M : Type 1} → statement M
-write-back-spec =
+pub write-union-spec : {M : Type 1} → statement M
+write-union-spec =
     tie.close
     (tie.spec Inv-loop μ-loop loop-holds previous-requires last-record-requires sub-k put-requires loop-less loop-again same-length returns)
