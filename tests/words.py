@@ -1,9 +1,11 @@
 """Checks that each word of the contracts has one meaning.
 
 The words are the names that the libraries' code and the definitions in crates/*/specs declare: definitions, types, their
-constructors and fields, functions, structs, enums, their cases and fields, the clauses of a contract, and the names that a
-module is imported by. A word is declared twice only where ONE has the meaning that it has at each place. None is a name that
-a contract or a definition imports from the toolchain's library, and no import gives a definition another name.
+constructors and fields, functions, structs, enums, their cases and fields, the clauses of a contract, the names that a module
+is imported by, and the parameters of functions and definitions that are no single letters. Words that differ only in case or in
+`_` and `-` count as one. A word stands in two places only where ONE has the meaning that it has at each, or where it names
+a function or a constant and the definition that the code is held to; a parameter is of one type wherever the code has it. None
+is a name that a contract or a definition imports from the toolchain's library, and no import gives a definition another name.
 """
 
 import collections
@@ -14,45 +16,86 @@ import sys
 ROOT = pathlib.Path(__file__).resolve().parent.parent
 CRATES = ROOT / "crates"
 
-# words that are declared more than once, and what each of them means everywhere
+# words that stand in more than one place, and what each of them means everywhere
 ONE = {
-    "MOST_ROWS": "the largest row count of a section",
-    "Refused": "the case of an answer that carries the refusal",
+    # calls and answers
+    "Refused": "a refused call: the case of an answer that carries the refusal, the outcome with its number",
+    "Refusal": "a ground for sending work back: the enum of them, and the number in a ground",
+    "Outcome": "what a call's conditions fix: the type, and the definition that gives it",
+    "Ground": "a line of the table of refusals: the record, and the definition that gives it",
+    "Answer": "what a call answers: the type, its values in a list of calls, the clause of a contract",
+    "FigureAnswer": "a mill figure's answer: the enum, and what it says as an outcome",
+    "LineAnswer": "a finished line's answer: the enum, and what it says as an outcome",
+    "TableAnswer": "an add's or a merge's answer: the enum, and what it says as an outcome",
     "add": "the call that adds two columns, and its entry in a list of calls",
     "merge": "the call that merges two tables, and its entry in a list of calls",
-    "sum": "a section's sum: the call, its question, its field in a line, its entry in the bench book",
-    "figure": "a section's mill figure: the call, its question, its field in a line",
-    "line": "a section's finished line: the call and its question",
-    "answer": "what a call answers",
+    "sum": "a section's sum: the call, its question, its field in a line, its entry in the bench book, a double or the answer that has it",
+    "figure": "a section's mill figure: the call, its question, its field in a line, the case that carries it",
+    "line": "a section's finished line: the call, its question, the case that carries it",
+    "look_up": "the record of a section: the function, and the enum of what it finds",
     "content": "the bytes that the caller has afterwards, of a part returned or of a buffer lent",
-    "work": "what the work buffer holds after the call",
+    "work": "the work buffer: what is lent, and what it holds after the call",
+    "Absent": "a section without a row: the sum's case, and the claim about it",
+    "TooLarge": "refusal 14's condition, and the sum's case",
+    "NotSound": "refusal 7's condition: the sum's case, and the example of it",
+    "TooShort": "refusal 16's condition, and the case of the answer",
+    "TooManyKeys": "refusal 12 and its condition",
+    "TooManyRows": "refusal 11 and its condition",
+    "NoRoom": "refusal 12's condition, while rows are placed and in an example",
+    # files and columns
+    "file": "the bytes of a patch file",
+    "keys": "a key column",
+    "values": "a value column",
+    "kind": "a kind of value",
     "key_start": "where a file's key column starts",
     "value_start": "where a file's value column starts",
     "start": "where a column starts",
-    "bits": "the 64 bits of a double",
-    "negative": "the sign is a minus",
-    "capacity": "document 01's capacity: the definition and the function that gives it",
-    "significand": "a double's significand: the definition and the function that gives it",
+    "KeyDistance": "the key distance, and the refusal for it",
+    "ValueDistance": "the value distance, and the refusal for it",
+    "RowCount": "the row count of a file, and the answer that has it",
+    "columns_fit": "some row count fits both columns: the definition, the function, the example of it",
+    "Row": "a row: the record, and an example of it",
+    "rows": "rows as a list: of each table, of two columns",
     "count": "a number of rows",
-    "groups": "a number of groups",
     "key": "a section number",
-    "rows": "the rows of each table",
+    "bits": "the 64 bits of a double",
+    # levels and records
+    "significand": "a double's significand: the definition and the function that gives it, and the 53 digits of which a sum's is made",
+    "is_finite": "neither infinite nor not a number: the function, and the claim",
+    "negative": "the sign is a minus",
+    "magnitude": "a size without its sign",
     "top": "document 01's top",
     "high": "what belongs to level t",
     "middle": "what belongs to level t - 1",
     "low": "what belongs to level t - 2",
+    "rest": "what is left after a whole number of units",
+    "rounded_up": "the units came to more than what was cut",
+    "total": "a level's total",
     "split": "a total as residue and carry",
     "nothing": "the total 0",
     "is_zero": "equal to 0",
+    "capacity": "document 01's capacity: the definition and the function that gives it",
+    "groups": "a number of groups",
+    "table": "a table: its bytes as they are lent, the buffer and group count that a list of calls leaves",
+    "Place": "where a key stands among records: the enum, and the definition that gives it",
+    "last": "the place that the next row tries first",
+    "initial": "the bytes in tables' buffers at the start",
+    "Within": "fewer records are left, in their bytes: the record, and the field that has it",
+    "LastSection": "the last section of the union of two tables: the definition, and the claim about it",
+    # wide numbers
     "limbs": "a number in limbs",
-    "normal": "every limb has 40 digits",
+    "reduced": "every limb has 40 digits",
     "same": "the limbs stand for this number",
     "near": "nothing is nearer",
-    "rounded_up": "the digits cut off were rounded up",
+    "HalfUp": "an exact half goes up: the record, and the field that says so",
+    # examples
     "computed": "that the definitions give what the examples expect",
     "expected": "what an example has to give",
     "exampleRows": "the rows of an example",
+    "BenchFigure": "a figure of the bench book",
 }
+# parameters of two types
+TWO_TYPES = {"sum"}
 ONE |= {f"limb{i}": "the bound of a limb" for i in range(4)}
 ONE |= {f"of-{call}": "what is said of this call's contract" for call in ("add", "merge", "sum", "figure", "line", "keys", "values")}
 ONE |= {f"{call}{part}": f"the module {part} of this call's contract" for call in ("add", "merge", "sum", "figure", "line", "keys", "values") for part in ("Reads", "Kinds")}
@@ -93,6 +136,32 @@ def code_words(text):
             yield from re.findall(r"(\w+):", found[2] or "")
 
 
+def folded(word):
+    """A word without what only sets styles apart."""
+    return re.sub(r"[_\-«»]", "", word).lower()
+
+
+def functions(text):
+    """The functions of a file of code: name, parameters with their types, and contract."""
+    for found in re.finditer(r"^(?:#\[no_mangle\]\s+)?(?:pub )?(?:extern \"C\" )?fn (\w+)\(([^)]*)\)(.*?)^\{", text, re.M | re.S):
+        named = re.findall(r"(\w\w+): (?:&(?:mut )?)?([^,\n]+)", found[2])
+        yield found[1], [(word, re.sub(r"^(?:[iu]\d+|usize)$", "a number", kind.strip())) for word, kind in named], found[3]
+
+
+def spec_parameters(text):
+    """The parameters of the definitions in a file; what it imports or declares itself is a constructor in a pattern."""
+    named = {part for word in [*spec_words(text), *modules(text)] for part in word.split("_")}
+    for names in re.findall(r"^use [^{\n]*\{([^}]*)\}", text, re.M):
+        named |= {n.strip() for n in names.split(",")}
+    words = []
+    for line in text.splitlines():
+        if found := re.match(rf"(?:{NAME})((?: [\w′\-]+| \([^)]*\))+) =(?: |$)", line):
+            words += re.findall(r"(?<![\w.])[a-z]\w+", found[1])
+    for names in re.findall(r"\(([a-z][\w ]*) : ", text):
+        words += [n for n in names.split() if len(n) > 1]
+    yield from (w for w in words if w not in named)
+
+
 def clauses(text):
     return re.findall(r"(?:ensures|requires) ([\w-]+) \{", text)
 
@@ -114,25 +183,50 @@ def renamed(text):
         yield from (n.strip() for n in names.split(",") if " as " in n)
 
 
+def tied(text, definitions):
+    """The words of a file of code that name what a definition of another spelling gives: a function whose contract cites it, or a constant."""
+    for name, _, contract in functions(text):
+        if definitions.get(folded(name), name) != name and definitions[folded(name)] in contract:
+            yield name
+    yield from (c for c in re.findall(r"^(?:pub )?const (\w+)", text, re.M) if folded(c) in definitions)
+
+
 def main():
-    places, taken, bad = collections.defaultdict(list), set(), []
-    specs = list(CRATES.glob("*/specs/**/*.antt"))
-    codes = [f for f in CRATES.glob("*/src/**/*.rt") if f.name != "main.rt"]
-    for f in sorted(specs + codes):
+    places, types, taken, bad = collections.defaultdict(list), collections.defaultdict(set), set(), []
+    specs = sorted(CRATES.glob("*/specs/**/*.antt"))
+    codes = sorted(f for f in CRATES.glob("*/src/**/*.rt") if f.name != "main.rt")
+    parameters, definitions = set(), {}
+    for f in specs:
         text, name = f.read_text(), str(f.relative_to(CRATES))
-        words = spec_words(text) if f.suffix == ".antt" else code_words(text)
-        for word in words:
-            places[word].append(name)
-        for word in [*set(clauses(text)), *modules(text)]:
-            places[word].append(name)
+        for word in [*spec_words(text), *modules(text)]:
+            places[folded(word)].append((word, name))
+            definitions.setdefault(folded(word), word)
+        parameters |= set(spec_parameters(text))
+    for f in codes:
+        text, name = f.read_text(), str(f.relative_to(CRATES))
+        paired = set(tied(text, definitions))
+        for word in [*code_words(text), *set(clauses(text)), *modules(text)]:
+            if word not in paired:
+                places[folded(word)].append((word, name))
+        for _, named, _ in functions(text):
+            for word, kind in named:
+                parameters.add(word)
+                types[word].add(kind)
+    for f in specs + codes:
+        text, name = f.read_text(), str(f.relative_to(CRATES))
         taken |= set(library(text))
         bad += [f"{name}: {names}: a definition with another name" for names in renamed(text)]
+    one = {folded(word) for word in ONE}
+    for word in parameters:
+        if not any(name == "a parameter" for _, name in places[folded(word)]):
+            places[folded(word)].append((word, "a parameter"))
+        if len(types[word]) > 1 and word not in TWO_TYPES:
+            bad.append(f"{word}: a parameter of the types {', '.join(sorted(types[word]))}")
     for word, where in sorted(places.items()):
-        if len(where) > 1 and word not in ONE:
-            bad.append(f"{word}: declared in {', '.join(where)}")
-        if word in taken:
-            bad.append(f"{word}: declared in {', '.join(where)}, and it is the library's")
-    bad += [f"{word}: is not declared twice" for word in sorted(ONE) if len(places[word]) < 2]
+        if len(where) > 1 and word not in one:
+            bad.append(", ".join(f"{spelt} in {name}" for spelt, name in where) + ": which meaning?")
+        bad += [f"{spelt} in {name}: it is the library's" for spelt, name in where if spelt in taken]
+    bad += [f"{word}: stands in one place only" for word in sorted(ONE) if len(places[folded(word)]) < 2]
     for fault in bad:
         print(fault, file=sys.stderr)
     sys.exit(1 if bad or not places else 0)

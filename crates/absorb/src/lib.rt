@@ -24,7 +24,7 @@ fn locate(t: &[u8], g: usize, last: usize, key: u32) -> Place
 {
     if last < g {
         if codec::u32_at(t, last * 64) == key {
-            return Place::At(last);
+            return Place::Index(last);
         }
     }
     record::binary_search(t, g, key)
@@ -65,7 +65,7 @@ fn absorb_record(t: &mut [u8], g: usize, last: usize, room: usize, r: Record) ->
     ensures { λ a. ⌜ Absorbs (meaning r) room (sections (now (t .entry)) g) (now (t .exit)) a ⌝ }
 {
     match locate(t, g, last, r.key) {
-        Place::At(i) => {
+        Place::Index(i) => {
             combine_at(t, i, r);
             Absorbed::Into { groups: g, last: i }
         }

@@ -237,7 +237,7 @@ fn look_up(table: &[u8], g: usize, key: u32) -> Lookup
         return Lookup::Unsound;
     }
     match record::binary_search(table, g, key) {
-        Place::At(i) => Lookup::Found(record::get(table, i)),
+        Place::Index(i) => Lookup::Found(record::get(table, i)),
         Place::Gap(_) => Lookup::Missing,
     }
 }

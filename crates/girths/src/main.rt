@@ -2,8 +2,8 @@
 use libc::STDERR_FILENO;
 use libc::STDIN_FILENO;
 use libc::STDOUT_FILENO;
-use report::Printed;
 use report::LONGEST_TEXT;
+use report::Printed;
 ghost use Prim.Native.Nat.{_-_, _≤_};
 ghost use mathlib.Core.Path.{_≡_};
 ghost use lib.ListN.{length, take};
@@ -11,7 +11,7 @@ ghost use Rattle.girths.specs.Input.{GaveAtMost};
 
 // How many bytes were read, or that a read failed.
 enum Received {
-    Count(usize),
+    Length(usize),
     Failed,
 }
 
@@ -25,7 +25,7 @@ fn read_more(buffer: &mut [u8], done: usize) -> Received
     if got < 0 {
         return Received::Failed;
     }
-    Received::Count(io::count(got, &buffer[done..]))
+    Received::Length(io::count(got, &buffer[done..]))
 }
 
 // Reads until the input ends or the buffer is full.
@@ -34,15 +34,15 @@ fn read_all(buffer: &mut [u8]) -> Received
 {
     let mut done = 0;
     while done < buffer.len() {
-        let Received::Count(n) = read_more(buffer, done) else {
+        let Received::Length(n) = read_more(buffer, done) else {
             return Received::Failed;
         };
         if n == 0 {
-            return Received::Count(done);
+            return Received::Length(done);
         }
         done += n;
     }
-    Received::Count(done)
+    Received::Length(done)
 }
 
 fn print_report(file: &[u8]) {
@@ -63,7 +63,7 @@ fn print_report(file: &[u8]) {
 fn main() {
     let mut buffer = [0u8; 65537];
     match read_all(&mut buffer) {
-        Received::Count(n) => print_report(&buffer[..n]),
+        Received::Length(n) => print_report(&buffer[..n]),
         Received::Failed => os::fail(b"girths: standard input"),
     }
 }

@@ -180,12 +180,12 @@ fn flipped_if(sign: bool, flip: bool) -> bool
     if flip { !sign } else { sign }
 }
 
-// A number of a sign and a size.
-pub fn with_sign(sign: bool, size: u64) -> i64
-    requires { ⌜ size < 2 ^ 63 ⌝ }
-    ensures { λ r. ⌜ r ≡ signed sign size ⌝ }
+// A number of a sign and a magnitude.
+pub fn with_sign(sign: bool, magnitude: u64) -> i64
+    requires { ⌜ magnitude < 2 ^ 63 ⌝ }
+    ensures { λ r. ⌜ r ≡ signed sign magnitude ⌝ }
 {
-    let x = size as i64;
+    let x = magnitude as i64;
     if sign { -x } else { x }
 }
 

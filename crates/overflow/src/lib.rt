@@ -48,7 +48,7 @@ fn held_count(t: &[u8], g: usize, k: u32) -> u32
     ensures { λ r. ⌜ r ≡ countIn k (sections (now (t .entry)) g) ⌝ }
 {
     match record::binary_search(t, g, k) {
-        Place::At(i) => codec::u32_at(t, i * 64 + 4),
+        Place::Index(i) => codec::u32_at(t, i * 64 + 4),
         Place::Gap(_) => 0,
     }
 }

@@ -11,7 +11,7 @@ use lib.Dec.{T, eqb}
 use lib.ListN.{length, getD}
 use Rattle.codec.proofs.Cells.{length-cells}
 use Rattle.record.specs.declared.Record.{Record}
-use Rattle.record.specs.declared.Place.the-variants.{At, Gap}
+use Rattle.record.specs.declared.Place.the-variants.{Index, Gap}
 use Rattle.record.specs.Layout.{records, recordAt, decode}
 use Rattle.record.specs.Keys.{recordKeys, rising, has, place}
 use Rattle.record.specs.Section.{meaning, sections, find}
@@ -47,7 +47,7 @@ sound-record-at s g i h l =
 
 module _ (s : List ℕ) (g k i : ℕ) (h : T (sound s g)) where
   -- the record at the place of a key
-  pub found : At i ≡ place k (recordKeys (records s g)) → (i * 64 + 64 ≤ length s) × (find k (sections s g) ≡ some (meaning (recordAt s (i * 64)))) × T (soundRecord (recordAt s (i * 64)))
+  pub found : Index i ≡ place k (recordKeys (records s g)) → (i * 64 + 64 ≤ length s) × (find k (sections s g) ≡ some (meaning (recordAt s (i * 64)))) × T (soundRecord (recordAt s (i * 64)))
   found e =
       let p = sound-parts s g h in
       let w = place-is-at k (recordKeys (records s g)) i (p .2) e in

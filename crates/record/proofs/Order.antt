@@ -13,7 +13,7 @@ use borrow.Author.Tests.{lt-ltb, le-ltb, eq-eqb, ne-eqb, ltb-true, ltb-false, eq
 use lib.ListN.{length, getD, take, drop}
 use Rattle.lists.proofs.Booleans.{both-false}
 use Rattle.record.specs.Keys.{rising, countBelow, has, place}
-use Rattle.record.specs.declared.Place.the-variants.{At, Gap}
+use Rattle.record.specs.declared.Place.the-variants.{Index, Gap}
 
 -- the first key is below all the others
 head-lt : (x : ℕ) (xs : List ℕ) → T (rising (x ∷ xs)) → (j : ℕ) → j < length xs → x < getD xs j 0
@@ -79,7 +79,7 @@ module _ (k : ℕ) where
   has-no [] h = refl
   has-no (x ∷ xs) h = rw (ne-eqb x k (h 0 (omega arith))) (has-no xs (λ i l. h (suc i) (omega arith)))
 
-  pub place-at : (ks : List ℕ) (b : ℕ) → b ≡ countBelow k ks → b < length ks → getD ks b 0 ≡ k → At b ≡ place k ks
+  pub place-at : (ks : List ℕ) (b : ℕ) → b ≡ countBelow k ks → b < length ks → getD ks b 0 ≡ k → Index b ≡ place k ks
   place-at ks b e l h = rw (has-yes ks b l h, e)
 
   pub place-gap : (ks : List ℕ) → T (rising ks) → (b : ℕ) → b ≡ countBelow k ks → (b < length ks → getD ks b 0 ≡ k → ⊥) → Gap b ≡ place k ks
@@ -93,7 +93,7 @@ module _ (k : ℕ) where
           (eq-or-lt-of-le m)
 
   -- where k stands among rising keys, it stands there alone
-  pub place-of : (ks : List ℕ) (i : ℕ) → T (rising ks) → i < length ks → getD ks i 0 ≡ k → At i ≡ place k ks
+  pub place-of : (ks : List ℕ) (i : ℕ) → T (rising ks) → i < length ks → getD ks i 0 ≡ k → Index i ≡ place k ks
   place-of ks i r l e = place-at ks i (sym (first (eq-or-lt-of-le (below-ge ks r i l (omega arith))))) l e
     where
       first : (countBelow k ks ≡ i) ⊎ (countBelow k ks < i) → countBelow k ks ≡ i
@@ -148,10 +148,10 @@ has-true k (x ∷ xs) e = by (eqb x k) refl e (has-true k xs)
     by false q e ih = let w = ih e in (suc (w .0), omega arith, w .2)
 
 module _ (k : ℕ) (ks : List ℕ) (i : ℕ) where
-  pub place-is-at : T (rising ks) → At i ≡ place k ks → (i < length ks) × (getD ks i 0 ≡ k)
+  pub place-is-at : T (rising ks) → Index i ≡ place k ks → (i < length ks) × (getD ks i 0 ≡ k)
   place-is-at r e = by (has k ks) refl e
     where
-      by : (b : Bool) → has k ks ≡ b → At i ≡ cond b (At (countBelow k ks)) (Gap (countBelow k ks)) → (i < length ks) × (getD ks i 0 ≡ k)
+      by : (b : Bool) → has k ks ≡ b → Index i ≡ cond b (Index (countBelow k ks)) (Gap (countBelow k ks)) → (i < length ks) × (getD ks i 0 ≡ k)
       by true q e =
           let w = has-true k ks q in
           let n : i ≡ countBelow k ks = cc in
@@ -164,6 +164,6 @@ module _ (k : ℕ) (ks : List ℕ) (i : ℕ) where
   pub place-is-gap : Gap i ≡ place k ks → (i ≡ countBelow k ks) × (has k ks ≡ false)
   place-is-gap e = by (has k ks) e
     where
-      by : (b : Bool) → Gap i ≡ cond b (At (countBelow k ks)) (Gap (countBelow k ks)) → (i ≡ countBelow k ks) × (b ≡ false)
+      by : (b : Bool) → Gap i ≡ cond b (Index (countBelow k ks)) (Gap (countBelow k ks)) → (i ≡ countBelow k ks) × (b ≡ false)
       by true e = let z : _≡_ {A = ℕ} 0 1 = cc in absurd (omega arith)
       by false e = (cc, refl)

@@ -9,7 +9,7 @@ use Rattle.codec.specs.Bytes.{number, bytes, numberAt}
 use Rattle.codec.specs.Cells.{cells}
 use Rattle.level.specs.declared.SplitTotal.{SplitTotal}
 use Rattle.record.specs.declared.Record.{Record}
-use Rattle.record.specs.declared.Place.the-variants.{At, Gap}
+use Rattle.record.specs.declared.Place.the-variants.{Index, Gap}
 use Rattle.record.specs.Layout.{decode, encode, records}
 use Rattle.record.specs.Keys.{recordKeys, rising, countBelow, has, place}
 use Rattle.level.specs.Carry.{totalOf}
@@ -46,7 +46,7 @@ twice-not : sound (encode b2 ++ encode b2) 2 ≡ false
 unfolding sound soundRecords soundRecord soundTotal isZero rising cells decode encode bytes numberAt number
 twice-not = refl
 
-place-found : place 7 (recordKeys (records oneRecord 1)) ≡ At 0
+place-found : place 7 (recordKeys (records oneRecord 1)) ≡ Index 0
 unfolding has countBelow cells decode encode bytes numberAt number
 place-found = refl
 

@@ -5,7 +5,7 @@ use mathlib.Core.List.{List, [], _∷_, map}
 use lib.Dec.{ltb, eqb}
 use Rattle.record.specs.declared.Record.{Record}
 use Rattle.record.specs.declared.Place.{Place}
-use Rattle.record.specs.declared.Place.the-variants.{At, Gap}
+use Rattle.record.specs.declared.Place.the-variants.{Index, Gap}
 
 -- the keys of records
 abbrev pub recordKeys : List Record → List ℕ
@@ -29,4 +29,4 @@ has k (x ∷ xs) = eqb x k || has k xs
 
 -- where k stands, or would have to stand
 abbrev pub place : ℕ → List ℕ → Place
-place k ks = cond (has k ks) (At (countBelow k ks)) (Gap (countBelow k ks))
+place k ks = cond (has k ks) (Index (countBelow k ks)) (Gap (countBelow k ks))

@@ -72,7 +72,7 @@ pub fn put(t: &mut [u8], i: usize, r: Record)
 
 // Where a key stands among the records, or how many stand before the place where it would.
 pub enum Place {
-    At(usize),
+    Index(usize),
     Gap(usize),
 }
 
@@ -97,7 +97,7 @@ pub fn binary_search(t: &[u8], g: usize, key: u32) -> Place
     }
     if lo < g {
         if codec::u32_at(t, lo * 64) == key {
-            return Place::At(lo);
+            return Place::Index(lo);
         }
     }
     Place::Gap(lo)

@@ -4,7 +4,7 @@ use Rattle.refusal.specs.Number.{numberOf}
 use Rattle.refusal.specs.Outcome.{Outcome, accepted, refused}
 use Rattle.table.specs.declared.TableAnswer.{TableAnswer}
 use Rattle.table.specs.declared.ColumnCheck.{ColumnCheck}
-use Rattle.table.specs.declared.ColumnCheck.the-variants as columnCheck
+use Rattle.table.specs.declared.ColumnCheck.the-variants as columnChecks
 use Rattle.table.specs.declared.TableAnswer.the-variants.{Groups, Refused}
 
 -- a group count, or the refusal's number
@@ -14,5 +14,5 @@ tableAnswer (Refused r) = refused (numberOf r)
 
 -- nothing to refuse, or the refusal's number
 abbrev pub checkAnswer : ColumnCheck → Outcome (Unit {0})
-checkAnswer columnCheck.Good = accepted tt
-checkAnswer (columnCheck.Refused r) = refused (numberOf r)
+checkAnswer columnChecks.Good = accepted tt
+checkAnswer (columnChecks.Refused r) = refused (numberOf r)

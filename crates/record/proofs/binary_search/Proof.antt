@@ -12,7 +12,7 @@ use lib.Dec.{T, ltb}
 use Rattle.codec.specs.Bytes.{numberAt}
 use Rattle.record.specs.Layout.{records}
 use Rattle.record.specs.Keys.{recordKeys, rising, countBelow, place}
-use Rattle.record.specs.declared.Place.the-variants.{At, Gap}
+use Rattle.record.specs.declared.Place.the-variants.{Index, Gap}
 use Rattle.record.proofs.Laws.{getD-keys, length-keys}
 use Rattle.record.proofs.Order.{below-le, below-lt, below-ge, place-at, place-gap}
 use Rattle.record.proofs.binary_search.Statement.{statement}
@@ -32,7 +32,7 @@ module _ (s : List ℕ) (g key : ℕ) (pre : (g * 64 ≤ length s) × T (rising 
   larger : i < g → key ≤ v → countBelow key (recordKeys (records s g)) ≤ i
   larger h l = below-ge key (recordKeys (records s g)) (pre .1) i (inside h) (rw (at h) l)
 
-  found : i < g → i ≡ countBelow key (recordKeys (records s g)) → v ≡ key → At i ≡ place key (recordKeys (records s g))
+  found : i < g → i ≡ countBelow key (recordKeys (records s g)) → v ≡ key → Index i ≡ place key (recordKeys (records s g))
   found h b q = place-at key (recordKeys (records s g)) i b (inside h) (at h ∙ q)
 
   missing : i < g → i ≡ countBelow key (recordKeys (records s g)) → (v ≡ key → ⊥) → Gap i ≡ place key (recordKeys (records s g))
