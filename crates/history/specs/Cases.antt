@@ -8,7 +8,7 @@ use Rattle.codec.specs.Cells.{cells, image}
 use Rattle.refusal.specs.Outcome.{accepted, refused}
 use Rattle.level.specs.Level.{topFrom, top, given, contribution, topOf, total}
 use Rattle.columns.specs.declared.Kind.the-variants.{Double}
-use Rattle.columns.specs.Columns.{Row, rowsFrom, columnsFit, rowsOf}
+use Rattle.columns.specs.Columns.{width, Row, rowsFrom, columnsFit, rowsOf}
 use Rattle.record.specs.Section.{Section, sections, written, find, kept}
 use Rattle.finish.specs.Sum.{tooLarge, nearestDouble}
 use Rattle.finish.specs.Figure.{millFigure, beyond}
@@ -36,7 +36,7 @@ emptyTables = noGroups (λ i. lentBuffer)
 
 -- an add to table i of rows given by their keys and bits
 abbrev addTo : ℕ → List ℕ → List ℕ → Call
-addTo i ks vs = add i Double (image (bytes 4) ks) (image (bytes 8) vs) 128
+addTo i ks vs = add i Double (image (bytes 4) ks) (image (bytes (width Double)) vs) 128
 
 -- an add that is refused, since three key bytes are no column
 abbrev refusedAdd : Call

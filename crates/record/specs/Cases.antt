@@ -2,7 +2,7 @@
 use Prim.Native.Nat.{ℕ, _^_, _+_, _-_}
 use mathlib.Core.Path.{_≡_, refl}
 use mathlib.Core.Bool.{true, false}
-use mathlib.Core.List.{List, _++_}
+use mathlib.Core.List.{List, [], _∷_, _++_, map}
 use lib.IntN.{pos, negsuc}
 use lib.ListN.{replicate}
 use Rattle.codec.specs.Bytes.{number, bytes, numberAt}
@@ -19,30 +19,30 @@ use Rattle.record.specs.Sound.{soundTotal, isZero, soundRecord, soundRec
 abbrev pub nothing : SplitTotal
 nothing = record { residue = 0; carry = pos 0 }
 
--- B2, the row -1: first residue 1125882726973440, carry -1, top 26
-abbrev b2 : Record
-b2 = record { key = 7; count = 1; top = 26; reserved = 0; high = record { residue = 1125882726973440; carry = negsuc 0 }; middle = nothing; low = nothing }
+-- section 7 with two rows at top 26: totals -5, 3 and 0
+abbrev sampleRecord : Record
+sampleRecord = record { key = 7; count = 2; top = 26; reserved = 0; high = record { residue = 2 ^ 50 - 5; carry = negsuc 0 }; middle = record { residue = 3; carry = pos 0 }; low = nothing }
 
-b2-total : totalOf (b2 .high) ≡ negsuc (2 ^ 34 - 1)
-b2-total = refl
+sample-totals : map totalOf (sampleRecord .high ∷ sampleRecord .middle ∷ sampleRecord .low ∷ []) ≡ negsuc 4 ∷ pos 3 ∷ pos 0 ∷ []
+sample-totals = refl
 
-b2-back : decode (encode b2) ≡ b2
+read-back-record : decode (encode sampleRecord) ≡ sampleRecord
 unfolding decode encode bytes numberAt number
-b2-back = refl
+read-back-record = refl
 
-b2-sound : soundRecord b2 ≡ true
+sample-sound : soundRecord sampleRecord ≡ true
 unfolding soundRecord soundTotal isZero
-b2-sound = refl
+sample-sound = refl
 
 -- a table of one record, with bytes after it that do not count
 abbrev oneRecord : List ℕ
-oneRecord = encode b2 ++ replicate 70 255
+oneRecord = encode sampleRecord ++ replicate 70 255
 
 one-sound : sound oneRecord 1 ≡ true
 unfolding sound soundRecords soundRecord soundTotal isZero rising cells decode encode bytes numberAt number
 one-sound = refl
 
-twice-not : sound (encode b2 ++ encode b2) 2 ≡ false
+twice-not : sound (encode sampleRecord ++ encode sampleRecord) 2 ≡ false
 unfolding sound soundRecords soundRecord soundTotal isZero rising cells decode encode bytes numberAt number
 twice-not = refl
 

@@ -9,7 +9,8 @@ use Rattle.codec.specs.Cells.{cells, image}
 use Rattle.level.specs.Level.{top, topFrom, given, contribution}
 use Rattle.patch.specs.Cases.{reportInput}
 use Rattle.patch.specs.File.{mark, marked, outside, overlap, readGrounds, readOutcome, column, keyColumn, valueColumn}
-use Rattle.columns.specs.Columns.{rowsFrom, rowsOf, columnsFit}
+use Rattle.columns.specs.declared.Kind.the-variants.{Double}
+use Rattle.columns.specs.Columns.{width, rowsFrom, rowsOf, columnsFit}
 use Rattle.record.specs.Keys.{rising}
 use Rattle.record.specs.Sound.{sound, soundRecords}
 use Rattle.record.specs.Section.{kept}
@@ -23,7 +24,7 @@ use Rattle.report.specs.Text.{headLine, refusalText, figureField, lastFi
 
 -- a key column, a value column and the trailer
 fileOf : List ℕ → List ℕ → List ℕ
-fileOf ks vs = image (bytes 4) ks ++ image (bytes 8) vs ++ bytes 4 (length ks) ++ bytes 4 (12 * length ks + 16) ++ bytes 4 (8 * length ks + 16) ++ mark
+fileOf ks vs = image (bytes 4) ks ++ image (bytes (width Double)) vs ++ bytes 4 (length ks) ++ bytes 4 ((4 + width Double) * length ks + 16) ++ bytes 4 (width Double * length ks + 16) ++ mark
 
 -- the report of document 01's input
 sampleText : List ℕ
