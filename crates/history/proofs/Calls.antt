@@ -1,17 +1,17 @@
 -- Each call keeps it that every table holds its rows in the ledger, and is answered by the ledger; so both hold over every list of calls.
 use Prim.Native.Nat.{ℕ}
 use mathlib.Core.Path.{_≡_, refl, ap, ap₂}
-use mathlib.Core.Bool.{false, not, _&&_}
+use mathlib.Core.Bool.{false, _&&_}
 use mathlib.Core.List.{List, [], _∷_}
 use native.Mathlib.Decide.{ℕ-discrete}
-use borrow.Author.Tests.{eq-eqb, ne-eqb, not-false}
+use borrow.Author.Tests.{eq-eqb, ne-eqb}
+use lib.Ieee.Bits.{is-true}
 use lib.Pow.{areBytes}
 use lib.ListN.{length}
 use Rattle.refusal.proofs.Outcomes.{not-given}
 use Rattle.columns.specs.Columns.{Row}
 use Rattle.lists.specs.Lists.{anyOf}
-use Rattle.lists.proofs.All.{All}
-use Rattle.history.specs.Calls.{Call, add, merge, ask, lendsBytes, addRowsGrounds, mergeRowsGrounds, Ledger, noRows, update, setRows, stepRows, ledgerAfter}
+use Rattle.history.specs.Calls.{Call, add, merge, ask, addRowsGrounds, mergeRowsGrounds, Ledger, noRows, update, setRows, stepRows, ledgerAfter}
 use Rattle.history.specs.Run.{Store, State, noGroups, setTable, step, stateAfter, groupsAre, answer, answers, answerRows, answersRows, refuses}
 use Rattle.history.proofs.Questions.{ask-is, ask-not-7}
 use Rattle.history.proofs.Tables.{HoldsRows, holds-none, sound-is, add-outcome, add-holds, merge-outcome, merge-holds}
@@ -37,39 +37,35 @@ module _ (initial : ℕ → List ℕ) where
       go j (no e) = rw (ne-eqb j i e) (a .tables j)
 
   module _ (s : State) (l : Ledger) (a : Agrees initial s l) where
-    step-agrees : (c : Call) → not (lendsBytes c) ≡ false → Agrees initial (step s c) (stepRows lens l c)
+    step-agrees : (c : Call) → Agrees initial (step s c) (stepRows lens l c)
     unfolding step stepRows
-    step-agrees (add i kind ks vs workLen) b =
-        agrees-set s l a i _ _ (add-holds (initial i) (s .tables i) (l .rows i) (a .tables i) kind ks vs workLen (not-false (areBytes ks && areBytes vs) b))
-    step-agrees (merge i j d) b =
+    step-agrees (add i kind ks vs b workLen) =
+        agrees-set s l a i _ _ (add-holds (initial i) (s .tables i) (l .rows i) (a .tables i) kind ks vs workLen (is-true (areBytes ks && areBytes vs) b))
+    step-agrees (merge i j d) =
         agrees-set s l a i _ _ (merge-holds (initial i) (s .tables i) (l .rows i) (a .tables i) (initial j) (s .tables j) (l .rows j) (a .tables j))
-    step-agrees (ask i q) b = a
+    step-agrees (ask i q) = a
 
     answer-is : (c : Call) → answer s c ≡ answerRows lens l c
     unfolding answer answerRows
-    answer-is (add i kind ks vs workLen) = ap groupsAre (add-outcome (initial i) (s .tables i) (l .rows i) (a .tables i) kind ks vs workLen)
+    answer-is (add i kind ks vs b workLen) = ap groupsAre (add-outcome (initial i) (s .tables i) (l .rows i) (a .tables i) kind ks vs workLen)
     answer-is (merge i j d) =
         ap groupsAre (merge-outcome (initial i) (s .tables i) (l .rows i) (a .tables i) (initial j) (s .tables j) (l .rows j) (a .tables j))
     answer-is (ask i q) = ask-is (s .tables i) (l .rows i) (sound-is (initial i) (s .tables i) (l .rows i) (a .tables i)) (a .tables i .holds) q
 
-  -- every call's columns hold bytes
-  abbrev AllLent : List Call → Type 0
-  AllLent cs = All (λ (c : Call). not (lendsBytes c) ≡ false) cs
-
-  pub agrees-after : (s : State) (l : Ledger) → Agrees initial s l → (cs : List Call) → AllLent cs → Agrees initial (stateAfter s cs) (ledgerAfter lens l cs)
+  pub agrees-after : (s : State) (l : Ledger) → Agrees initial s l → (cs : List Call) → Agrees initial (stateAfter s cs) (ledgerAfter lens l cs)
   unfolding stateAfter ledgerAfter
-  agrees-after s l a [] b = a
-  agrees-after s l a (c ∷ cs) b = agrees-after (step s c) (stepRows lens l c) (step-agrees s l a c (b .0)) cs (b .1)
+  agrees-after s l a [] = a
+  agrees-after s l a (c ∷ cs) = agrees-after (step s c) (stepRows lens l c) (step-agrees s l a c) cs
 
-  pub answers-are : (s : State) (l : Ledger) → Agrees initial s l → (cs : List Call) → AllLent cs → answers s cs ≡ answersRows lens l cs
+  pub answers-are : (s : State) (l : Ledger) → Agrees initial s l → (cs : List Call) → answers s cs ≡ answersRows lens l cs
   unfolding answers answersRows
-  answers-are s l a [] b = refl
-  answers-are s l a (c ∷ cs) b = ap₂ _∷_ (answer-is s l a c) (answers-are (step s c) (stepRows lens l c) (step-agrees s l a c (b .0)) cs (b .1))
+  answers-are s l a [] = refl
+  answers-are s l a (c ∷ cs) = ap₂ _∷_ (answer-is s l a c) (answers-are (step s c) (stepRows lens l c) (step-agrees s l a c) cs)
 
 -- ---- no answer is 7
 answer-not-7 : (len : ℕ → ℕ) (l : Ledger) (c : Call) → refuses 7 (answerRows len l c) ≡ false
 unfolding answerRows addRowsGrounds mergeRowsGrounds
-answer-not-7 len l (add i kind ks vs workLen) = not-given 7 (addRowsGrounds kind (len i) (l .rows i) ks vs workLen) _ refl
+answer-not-7 len l (add i kind ks vs b workLen) = not-given 7 (addRowsGrounds kind (len i) (l .rows i) ks vs workLen) _ refl
 answer-not-7 len l (merge i j d) = not-given 7 (mergeRowsGrounds (len i) (l .rows i) (l .rows j)) _ refl
 answer-not-7 len l (ask i q) = ask-not-7 (l .rows i) q
 

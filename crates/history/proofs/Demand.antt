@@ -1,7 +1,7 @@
 -- Demand 3 holds: after every way of working the state agrees with the ledger, and each claim is read off that.
 use Prim.Native.Nat.{ℕ, _*_, _<_}
 use mathlib.Core.Path.{_≡_, refl, sym, _∙_, ap, ap₂}
-use mathlib.Core.Bool.{true, false, not}
+use mathlib.Core.Bool.{true}
 use mathlib.Core.List.{List, [], _∷_}
 use mathlib.Core.Option.{none, some}
 use native.Mathlib.Omega.{arith}
@@ -12,11 +12,10 @@ use Rattle.columns.specs.Columns.{Row}
 use Rattle.record.specs.Sound.{sound}
 use Rattle.record.specs.Section.{sectionBytes, find}
 use Rattle.lists.specs.Lists.{anyOf}
-use Rattle.lists.proofs.All.{All, any-false}
 use Rattle.table.proofs.Bytes.{length-sectionBytes}
 use Rattle.history.specs.Rows.{SameRows, sectionBits}
 use Rattle.history.specs.Canonical.{sectionOf, sectionIf, canonical}
-use Rattle.history.specs.Calls.{Question, Call, lendsBytes, noRows}
+use Rattle.history.specs.Calls.{Question, noRows}
 use Rattle.history.specs.Run.{Store, askTable, askRows, answers, answersRows, refuses}
 use Rattle.history.specs.Demand3.{History, empty, lengths, rows, table, used, sectionsIn, Demand3}
 use Rattle.history.proofs.Sections.{section-count}
@@ -40,15 +39,12 @@ absent-is k (b ∷ bs) e = absurd (omega arith)
 
 -- ---- a table after a list of calls
 module _ (h : History) where
-  lent-is : All (λ (c : Call). not (lendsBytes c) ≡ false) (h .calls)
-  lent-is = any-false (λ (c : Call). not (lendsBytes c)) (h .calls) (h .in-bytes)
-
   answered-is : answers (empty h) (h .calls) ≡ answersRows (lengths h) noRows (h .calls)
-  answered-is = answers-are (h .initial) (empty h) noRows (agrees-none (h .initial)) (h .calls) lent-is
+  answered-is = answers-are (h .initial) (empty h) noRows (agrees-none (h .initial)) (h .calls)
 
   module _ (i : ℕ) where
     holds-is : HoldsRows (h .initial i) (table h i) (rows h i)
-    holds-is = agrees-after (h .initial) (empty h) noRows (agrees-none (h .initial)) (h .calls) lent-is .tables i
+    holds-is = agrees-after (h .initial) (empty h) noRows (agrees-none (h .initial)) (h .calls) .tables i
 
     table-sound : sound (table h i .buffer) (table h i .groups) ≡ true
     table-sound = sound-is (h .initial i) (table h i) (rows h i) holds-is

@@ -7,3 +7,4 @@ pub mod Questions
 pub mod Tables
 pub mod Calls
 pub mod Demand
+pub mod Terms

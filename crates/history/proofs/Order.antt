@@ -10,17 +10,10 @@ use borrow.Author.Tests.{eq-eqb, ne-eqb}
 use Rattle.record.specs.Section.{Section}
 use Rattle.columns.specs.Columns.{Row}
 use Rattle.table.proofs.Lookup.{join, join-assoc}
-use Rattle.history.specs.Rows.{equalRows, occurs, SameRows, sectionBits}
+use Rattle.history.specs.Rows.{equalRows, occurs, Permutation, unmoved, prepended, swapped, chained, SameRows, sectionBits}
 use Rattle.history.specs.Canonical.{sectionIf, canonical}
 use Rattle.history.proofs.Sections.{join-sections, join-comm}
 use Rattle.history.proofs.Canonical.{values-append, is-canonical, find-canonical, canonical-rising}
-
--- ys is xs in another order
-data Permutation : List Row → List Row → Type 0 where
-  still : {xs : List Row} → Permutation xs xs
-  skip : {x : Row} {xs ys : List Row} → Permutation xs ys → Permutation (x ∷ xs) (x ∷ ys)
-  swap : {x y : Row} {xs : List Row} → Permutation (x ∷ y ∷ xs) (y ∷ x ∷ xs)
-  both : {xs ys zs : List Row} → Permutation xs ys → Permutation ys zs → Permutation xs zs
 
 -- ---- equal occurrences make a permutation
 pub decRow : (r s : Row) → Dec (r ≡ s)
@@ -49,12 +42,12 @@ pub occurs-not : (r s : Row) (ss : List Row) → (r ≡ s → ⊥) → occurs r 
 unfolding occurs
 occurs-not r s ss h = rw (equal-not r s h) (omega arith)
 
-occurs-permuted : (r : Row) {xs ys : List Row} → Permutation xs ys → occurs r xs ≡ occurs r ys
+pub occurs-permuted : (r : Row) {xs ys : List Row} → Permutation xs ys → occurs r xs ≡ occurs r ys
 unfolding occurs
-occurs-permuted r still = refl
-occurs-permuted r (skip {x = x} h) = ap (λ (n : ℕ). cond (equalRows r x) 1 0 + n) (occurs-permuted r h)
-occurs-permuted r (swap {x = x} {y = y} {xs = xs}) = omega arith
-occurs-permuted r (both h k) = occurs-permuted r h ∙ occurs-permuted r k
+occurs-permuted r unmoved = refl
+occurs-permuted r (prepended {x = x} h) = ap (λ (n : ℕ). cond (equalRows r x) 1 0 + n) (occurs-permuted r h)
+occurs-permuted r (swapped {x = x} {y = y} {xs = xs}) = omega arith
+occurs-permuted r (chained h k) = occurs-permuted r h ∙ occurs-permuted r k
 
 -- a row that occurs can be brought to the front
 pull : (x : Row) (ys : List Row) → 0 < occurs x ys → (zs : List Row) × Permutation (x ∷ zs) ys
@@ -63,22 +56,22 @@ pull x [] h = absurd (omega arith)
 pull x (y ∷ ys) h = go (pull x ys) (decRow x y)
   where
     go : (0 < occurs x ys → (zs : List Row) × Permutation (x ∷ zs) ys) → Dec (x ≡ y) → (zs : List Row) × Permutation (x ∷ zs) (y ∷ ys)
-    go ih (yes e) = (ys, subst (λ (z : Row). Permutation (z ∷ ys) (y ∷ ys)) (sym e) still)
-    go ih (no e) = let p = ih (omega (arith, occurs-not x y ys e)) in (y ∷ p .0, both swap (skip (p .1)))
+    go ih (yes e) = (ys, subst (λ (z : Row). Permutation (z ∷ ys) (y ∷ ys)) (sym e) unmoved)
+    go ih (no e) = let p = ih (omega (arith, occurs-not x y ys e)) in (y ∷ p .0, chained swapped (prepended (p .1)))
 
--- one row less on both sides
+-- one row less on chained sides
 less-one : (x r : Row) (xs ys zs : List Row) → occurs r (x ∷ xs) ≡ occurs r ys → Permutation (x ∷ zs) ys → occurs r xs ≡ occurs r zs
 unfolding occurs
 less-one x r xs ys zs h p = omega (arith, occurs-permuted r p)
 
-permuted : (xs ys : List Row) → ((r : Row) → occurs r xs ≡ occurs r ys) → Permutation xs ys
+pub permuted : (xs ys : List Row) → ((r : Row) → occurs r xs ≡ occurs r ys) → Permutation xs ys
 unfolding occurs
-permuted [] [] h = still
+permuted [] [] h = unmoved
 permuted [] (y ∷ ys) h = absurd (omega (arith, h y, occurs-is y y ys refl))
 permuted (x ∷ xs) ys h = go (permuted xs) (pull x ys (omega (arith, h x, occurs-is x x xs refl)))
   where
     go : ((zs : List Row) → ((r : Row) → occurs r xs ≡ occurs r zs) → Permutation xs zs) → (zs : List Row) × Permutation (x ∷ zs) ys → Permutation (x ∷ xs) ys
-    go ih p = both (skip (ih (p .0) (λ r. less-one x r xs ys (p .0) (h r) (p .1)))) (p .1)
+    go ih p = chained (prepended (ih (p .0) (λ r. less-one x r xs ys (p .0) (h r) (p .1)))) (p .1)
 
 -- ---- a permutation keeps each section
 module _ (k : ℕ) where
@@ -93,13 +86,13 @@ module _ (k : ℕ) where
   two x y xs = cons x (y ∷ xs) ∙ ap (join (one x)) (cons y xs) ∙ sym (join-assoc (one x) (one y) (sectionIf k (sectionBits k xs)))
 
   section-permuted : {xs ys : List Row} → Permutation xs ys → sectionIf k (sectionBits k xs) ≡ sectionIf k (sectionBits k ys)
-  section-permuted still = refl
-  section-permuted (skip {x = x} {xs = xs} {ys = ys} h) = cons x xs ∙ ap (join (one x)) (section-permuted h) ∙ sym (cons x ys)
-  section-permuted (swap {x = x} {y = y} {xs = xs}) =
+  section-permuted unmoved = refl
+  section-permuted (prepended {x = x} {xs = xs} {ys = ys} h) = cons x xs ∙ ap (join (one x)) (section-permuted h) ∙ sym (cons x ys)
+  section-permuted (swapped {x = x} {y = y} {xs = xs}) =
       two x y xs
       ∙ ap (λ (o : Option Section). join o (sectionIf k (sectionBits k xs))) (join-comm k (sectionBits k (x ∷ [])) (sectionBits k (y ∷ [])))
       ∙ sym (two y x xs)
-  section-permuted (both h l) = section-permuted h ∙ section-permuted l
+  section-permuted (chained h l) = section-permuted h ∙ section-permuted l
 
 pub section-same : (k : ℕ) (xs ys : List Row) → SameRows xs ys → sectionIf k (sectionBits k xs) ≡ sectionIf k (sectionBits k ys)
 section-same k xs ys h = section-permuted k (permuted xs ys (h .counts))

@@ -1,6 +1,6 @@
 -- Lists of calls, and the rows of every table, read off the calls alone.
 use Prim.Native.Nat.{ℕ}
-use mathlib.Core.Bool.{Bool, true, not, cond, _&&_}
+use mathlib.Core.Bool.{Bool, not, cond, _&&_}
 use mathlib.Core.List.{List, [], _∷_, _++_}
 use lib.Dec.{T, ltb, eqb}
 use lib.ListN.{length}
@@ -17,18 +17,12 @@ use Rattle.history.specs.Rows.{sectionBits, sectionNumbers}
 pub data Question : Type 0 where
   sum figure line : (key : ℕ) → Question
 
--- a call on tables named by numbers: an add of two columns with values of some kind to table i, with the length of the lent work buffer; a merge
--- of table j into a different table i; a question about table i
+-- a call on tables named by numbers: an add to table i of two columns with values of some kind, which hold bytes as every slice does, with the length of the
+-- lent work buffer; a merge of table j into a different table i; a question about table i
 pub data Call : Type 0 where
-  add : (i : ℕ) (kind : Kind) (keys values : List ℕ) (workLen : ℕ) → Call
+  add : (i : ℕ) (kind : Kind) (keys values : List ℕ) → T (areBytes keys && areBytes values) → (workLen : ℕ) → Call
   merge : (i j : ℕ) → T (not (eqb i j)) → Call
   ask : (i : ℕ) → Question → Call
-
--- the columns that a call lends hold bytes
-abbrev pub lendsBytes : Call → Bool
-lendsBytes (add i kind ks vs workLen) = areBytes ks && areBytes vs
-lendsBytes (merge i j d) = true
-lendsBytes (ask i q) = true
 
 -- ---- whether a call is accepted, read off the rows, its own inputs and the length of the table's buffer
 
@@ -85,7 +79,7 @@ extended (refused n) rows new = rows
 
 -- the ledger after one call
 unfoldable pub stepRows : (ℕ → ℕ) → Ledger → Call → Ledger
-stepRows len l (add i kind ks vs workLen) = setRows i (extended (addRowsOutcome kind (len i) (l .rows i) ks vs workLen) (l .rows i) (rowsOf kind ks vs)) l
+stepRows len l (add i kind ks vs b workLen) = setRows i (extended (addRowsOutcome kind (len i) (l .rows i) ks vs workLen) (l .rows i) (rowsOf kind ks vs)) l
 stepRows len l (merge i j d) = setRows i (extended (mergeRowsOutcome (len i) (l .rows i) (l .rows j)) (l .rows i) (l .rows j)) l
 stepRows len l (ask i q) = l
 

@@ -1,8 +1,11 @@
 -- Worked examples, computed from the definitions: small lists of calls, and the tables that they leave.
 use Prim.Native.Nat.{ℕ}
 use mathlib.Core.Path.{_≡_, refl}
+use mathlib.Core.Bool.{_&&_}
 use mathlib.Core.List.{List, [], _∷_, map}
+use lib.Dec.{T}
 use lib.ListN.{replicate}
+use lib.Pow.{areBytes}
 use Rattle.codec.specs.Bytes.{number, bytes, numberAt}
 use Rattle.codec.specs.Cells.{cells, image}
 use Rattle.refusal.specs.Outcome.{accepted, refused}
@@ -23,7 +26,6 @@ use Rattle.lists.specs.Lists.{anyOf}
 use Rattle.history.specs.Rows.{sectionBits, insertKey, sectionNumbers}
 use Rattle.history.specs.Canonical.{sectionAtTop, canonical}
 use Rattle.history.specs.Calls.{sum, figure, line, Call, add, merge, ask, tooManyRows, tooManyKeys, addRowsGrounds, mergeRowsGrounds, noRows, stepRows, ledgerAfter}
-use Rattle.history.specs.Demand3.{History}
 use Rattle.history.specs.Run.{Store, State, noGroups, groupsAre, sumIs, figureIs, lineIs, step, stateAfter, askTable, answer, answers}
 
 -- a buffer of 128 bytes: room for two sections
@@ -35,12 +37,12 @@ abbrev emptyTables : State
 emptyTables = noGroups (λ i. lentBuffer)
 
 -- an add to table i of rows given by their keys and bits
-abbrev addTo : ℕ → List ℕ → List ℕ → Call
-addTo i ks vs = add i Double (image (bytes 4) ks) (image (bytes (width Double)) vs) 128
+abbrev addTo : (i : ℕ) (ks vs : List ℕ) → T (areBytes (image (bytes 4) ks) && areBytes (image (bytes (width Double)) vs)) → Call
+addTo i ks vs b = add i Double (image (bytes 4) ks) (image (bytes (width Double)) vs) b 128
 
 -- an add that is refused, since three key bytes are no column
 abbrev refusedAdd : Call
-refusedAdd = add 0 Double (7 ∷ 0 ∷ 0 ∷ []) [] 128
+refusedAdd = add 0 Double (7 ∷ 0 ∷ 0 ∷ []) [] tt 128
 
 -- 1 and 2^60 in section 7, the smallest double in section 3
 abbrev exampleRows : List Row
@@ -51,46 +53,54 @@ leftInTable0 : List Call → Store
 unfolding stateAfter step answers answer askTable addGrounds columnGrounds mergeGrounds sound rising cells soundRecords soundRecord soundTotal isZero columnsFit image bytes anyOf rowsOf rowsFrom number numberAt added merged absorb combine levelOf ofRow top topFrom given contribution encode decode
 leftInTable0 cs = stateAfter emptyTables cs .tables 0
 
--- the same rows in one add, in another order, in two adds, merged from another table, merged the other way round, and with a refused add between
-abbrev ways : List (List Call)
+-- the same rows in one add, in another order, in two fourAdds, merged from another table, merged the other way round, and with a refused add between
+ways : List (List Call)
+unfolding image bytes
 ways =
-    (addTo 0 (7 ∷ 3 ∷ 7 ∷ []) (0x3FF0000000000000 ∷ 1 ∷ 0x43B0000000000000 ∷ []) ∷ [])
-    ∷ (addTo 0 (7 ∷ 7 ∷ 3 ∷ []) (0x43B0000000000000 ∷ 0x3FF0000000000000 ∷ 1 ∷ []) ∷ [])
-    ∷ (addTo 0 (7 ∷ []) (0x3FF0000000000000 ∷ []) ∷ addTo 0 (7 ∷ 3 ∷ []) (0x43B0000000000000 ∷ 1 ∷ []) ∷ [])
-    ∷ (addTo 0 (7 ∷ []) (0x3FF0000000000000 ∷ []) ∷ addTo 1 (7 ∷ 3 ∷ []) (0x43B0000000000000 ∷ 1 ∷ []) ∷ merge 0 1 tt ∷ [])
-    ∷ (addTo 1 (7 ∷ []) (0x3FF0000000000000 ∷ []) ∷ addTo 0 (7 ∷ 3 ∷ []) (0x43B0000000000000 ∷ 1 ∷ []) ∷ merge 0 1 tt ∷ [])
-    ∷ (addTo 0 (7 ∷ []) (0x3FF0000000000000 ∷ []) ∷ refusedAdd ∷ addTo 0 (7 ∷ 3 ∷ []) (0x43B0000000000000 ∷ 1 ∷ []) ∷ [])
+    (addTo 0 (7 ∷ 3 ∷ 7 ∷ []) (0x3FF0000000000000 ∷ 1 ∷ 0x43B0000000000000 ∷ []) tt ∷ [])
+    ∷ (addTo 0 (7 ∷ 7 ∷ 3 ∷ []) (0x43B0000000000000 ∷ 0x3FF0000000000000 ∷ 1 ∷ []) tt ∷ [])
+    ∷ (addTo 0 (7 ∷ []) (0x3FF0000000000000 ∷ []) tt ∷ addTo 0 (7 ∷ 3 ∷ []) (0x43B0000000000000 ∷ 1 ∷ []) tt ∷ [])
+    ∷ (addTo 0 (7 ∷ []) (0x3FF0000000000000 ∷ []) tt ∷ addTo 1 (7 ∷ 3 ∷ []) (0x43B0000000000000 ∷ 1 ∷ []) tt ∷ merge 0 1 tt ∷ [])
+    ∷ (addTo 1 (7 ∷ []) (0x3FF0000000000000 ∷ []) tt ∷ addTo 0 (7 ∷ 3 ∷ []) (0x43B0000000000000 ∷ 1 ∷ []) tt ∷ merge 0 1 tt ∷ [])
+    ∷ (addTo 0 (7 ∷ []) (0x3FF0000000000000 ∷ []) tt ∷ refusedAdd ∷ addTo 0 (7 ∷ 3 ∷ []) (0x43B0000000000000 ∷ 1 ∷ []) tt ∷ [])
     ∷ []
 
 one-table : map leftInTable0 ways ≡ replicate 6 (record { buffer = written (canonical exampleRows) lentBuffer; groups = 2 })
-unfolding leftInTable0 canonical sectionNumbers insertKey sectionBits sectionAtTop topOf total
+unfolding ways leftInTable0 canonical sectionNumbers insertKey sectionBits sectionAtTop topOf total
 one-table = refl
 
 -- a table merged twice counts twice, in the rows and in the record
-abbrev twice : List Call
-twice = addTo 0 (7 ∷ []) (1 ∷ []) ∷ addTo 1 (7 ∷ []) (2 ∷ []) ∷ merge 0 1 tt ∷ merge 0 1 tt ∷ []
-
--- as a way of working: its columns hold bytes
-mergedTwice : History
-unfolding leftInTable0
-mergedTwice = record { initial = λ (i : ℕ). lentBuffer; calls = twice; in-bytes = refl }
+twice : List Call
+unfolding image bytes
+twice = addTo 0 (7 ∷ []) (1 ∷ []) tt ∷ addTo 1 (7 ∷ []) (2 ∷ []) tt ∷ merge 0 1 tt ∷ merge 0 1 tt ∷ []
 
 rows-twice : map (λ (r : Row). r .bits) (ledgerAfter (λ (i : ℕ). 128) noRows twice .rows 0) ≡ 1 ∷ 2 ∷ 2 ∷ []
-unfolding leftInTable0 ledgerAfter stepRows mergeRowsGrounds tooManyRows sectionNumbers addRowsGrounds insertKey sectionBits tooManyKeys
+unfolding twice leftInTable0 ledgerAfter stepRows mergeRowsGrounds tooManyRows sectionNumbers addRowsGrounds insertKey sectionBits tooManyKeys
 rows-twice = refl
 
 count-twice : map (λ (t : Section). t .count) (sections (leftInTable0 twice .buffer) 1) ≡ 3 ∷ []
-unfolding leftInTable0
+unfolding twice leftInTable0
 count-twice = refl
 
+-- refused with 9, accepted, and refused with 12 and with 10
+fourAdds : List Call
+unfolding image bytes
+fourAdds = refusedAdd ∷ addTo 0 (7 ∷ 3 ∷ []) (1 ∷ 2 ∷ []) tt ∷ addTo 0 (5 ∷ []) (1 ∷ []) tt ∷ addTo 0 (3 ∷ []) (0x7FF0000000000000 ∷ []) tt ∷ []
+
 -- answers: a refusal's number, or the new group count
-numbers : answers emptyTables (refusedAdd ∷ addTo 0 (7 ∷ 3 ∷ []) (1 ∷ 2 ∷ []) ∷ addTo 0 (5 ∷ []) (1 ∷ []) ∷ addTo 0 (3 ∷ []) (0x7FF0000000000000 ∷ []) ∷ [])
-    ≡ groupsAre (refused 9) ∷ groupsAre (accepted 2) ∷ groupsAre (refused 12) ∷ groupsAre (refused 10) ∷ []
-unfolding leftInTable0
+numbers : answers emptyTables fourAdds ≡ groupsAre (refused 9) ∷ groupsAre (accepted 2) ∷ groupsAre (refused 12) ∷ groupsAre (refused 10) ∷ []
+unfolding fourAdds leftInTable0
 numbers = refl
 
--- 2^60, 3 and -2^60 sum to 3; mill figure 300; section 8 is absent
-finished : answers emptyTables (addTo 0 (7 ∷ 7 ∷ 7 ∷ []) (0x43B0000000000000 ∷ 0x4008000000000000 ∷ 0xC3B0000000000000 ∷ []) ∷ ask 0 (sum 7) ∷ ask 0 (figure 7) ∷ ask 0 (line 8) ∷ [])
+-- 2^60, 3 and -2^60 in section 7, and questions
+threeQuestions : List Call
+unfolding image bytes
+threeQuestions =
+    addTo 0 (7 ∷ 7 ∷ 7 ∷ []) (0x43B0000000000000 ∷ 0x4008000000000000 ∷ 0xC3B0000000000000 ∷ []) tt
+    ∷ ask 0 (sum 7) ∷ ask 0 (figure 7) ∷ ask 0 (line 8) ∷ []
+
+-- they sum to 3; mill figure 300; section 8 is absent
+finished : answers emptyTables threeQuestions
     ≡ groupsAre (accepted 1) ∷ sumIs (accepted (ofBits binary64 0x4008000000000000)) ∷ figureIs (accepted (pos 300)) ∷ lineIs (refused 13) ∷ []
-unfolding leftInTable0 find kept tooLarge nearestDouble millFigure beyond ofBits round
+unfolding threeQuestions leftInTable0 find kept tooLarge nearestDouble millFigure beyond ofBits round
 finished = refl

@@ -1,7 +1,7 @@
 -- Demand 3: one claim about all ways of working.
 use Prim.Native.Nat.{ℕ, _*_, _^_, _≤_, _<_}
 use mathlib.Core.Path.{_≡_}
-use mathlib.Core.Bool.{true, false, not}
+use mathlib.Core.Bool.{true, false}
 use mathlib.Core.List.{List}
 use mathlib.Core.Option.{none, some}
 use lib.ListN.{length, take}
@@ -13,14 +13,13 @@ use Rattle.record.specs.Section.{Section, sections, written, find, kept}
 use Rattle.lists.specs.Lists.{anyOf}
 use Rattle.history.specs.Rows.{SameRows, sectionBits, largest}
 use Rattle.history.specs.Canonical.{canonical}
-use Rattle.history.specs.Calls.{Question, Call, lendsBytes, noRows, ledgerAfter}
+use Rattle.history.specs.Calls.{Question, Call, noRows, ledgerAfter}
 use Rattle.history.specs.Run.{Store, State, noGroups, stateAfter, askTable, askRows, answers, answersRows, refuses}
 
 -- a way of working: the bytes in each table's buffer at the start, and the calls
 pub record History : Type 0 where
   pub initial : ℕ → List ℕ
   pub calls : List Call
-  pub in-bytes : anyOf (λ (c : Call). not (lendsBytes c)) calls ≡ false
 
 -- the state at the start: every table is empty
 abbrev pub empty : History → State

@@ -4,4 +4,5 @@ pub mod Canonical
 pub mod Calls
 pub mod Run
 pub mod Demand3
+pub mod Terms
 pub mod Cases

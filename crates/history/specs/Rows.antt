@@ -16,6 +16,13 @@ unfoldable pub occurs : Row → List Row → ℕ
 occurs r [] = 0
 occurs r (s ∷ ss) = cond (equalRows r s) 1 0 + occurs r ss
 
+-- ys is xs in another order
+pub data Permutation : List Row → List Row → Type 0 where
+  unmoved : {xs : List Row} → Permutation xs xs
+  prepended : {x : Row} {xs ys : List Row} → Permutation xs ys → Permutation (x ∷ xs) (x ∷ ys)
+  swapped : {x y : Row} {xs : List Row} → Permutation (x ∷ y ∷ xs) (y ∷ x ∷ xs)
+  chained : {xs ys zs : List Row} → Permutation xs ys → Permutation ys zs → Permutation xs zs
+
 -- the same rows, repeats counted: the same multiset of rows
 pub record SameRows (xs ys : List Row) : Type 0 where
   pub counts : (r : Row) → occurs r xs ≡ occurs r ys

@@ -47,7 +47,7 @@ afterMerge t u =
 
 -- the state after one call; a question changes nothing
 unfoldable pub step : State → Call → State
-step s (add i kind ks vs workLen) = setTable i (afterAdd kind (s .tables i) ks vs workLen) s
+step s (add i kind ks vs b workLen) = setTable i (afterAdd kind (s .tables i) ks vs workLen) s
 step s (merge i j d) = setTable i (afterMerge (s .tables i) (s .tables j)) s
 step s (ask i q) = s
 
@@ -79,7 +79,7 @@ askRows rows (line k) = lineIs (lineOf (sectionIf k (sectionBits k rows)))
 
 -- what a call in this state answers
 unfoldable pub answer : State → Call → Answer
-answer s (add i kind ks vs workLen) = groupsAre (addOutcome kind (s .tables i .buffer) (s .tables i .groups) ks vs workLen)
+answer s (add i kind ks vs b workLen) = groupsAre (addOutcome kind (s .tables i .buffer) (s .tables i .groups) ks vs workLen)
 answer s (merge i j d) = groupsAre (mergeOutcome (s .tables i .buffer) (s .tables i .groups) (s .tables j .buffer) (s .tables j .groups))
 answer s (ask i q) = askTable (s .tables i) q
 
@@ -90,7 +90,7 @@ answers s (c ∷ cs) = answer s c ∷ answers (step s c) cs
 
 -- what a call is to answer by the ledger alone
 unfoldable pub answerRows : (ℕ → ℕ) → Ledger → Call → Answer
-answerRows len l (add i kind ks vs workLen) = groupsAre (addRowsOutcome kind (len i) (l .rows i) ks vs workLen)
+answerRows len l (add i kind ks vs b workLen) = groupsAre (addRowsOutcome kind (len i) (l .rows i) ks vs workLen)
 answerRows len l (merge i j d) = groupsAre (mergeRowsOutcome (len i) (l .rows i) (l .rows j))
 answerRows len l (ask i q) = askRows (l .rows i) q
 
