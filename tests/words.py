@@ -97,8 +97,7 @@ ONE = {
 # parameters of two types
 TWO_TYPES = {"sum"}
 ONE |= {f"limb{i}": "the bound of a limb" for i in range(4)}
-ONE |= {f"of-{call}": "what is said of this call's contract" for call in ("add", "merge", "sum", "figure", "line", "keys", "values")}
-ONE |= {f"{call}{part}": f"the module {part} of this call's contract" for call in ("add", "merge", "sum", "figure", "line", "keys", "values") for part in ("Reads", "Kinds")}
+ONE |= {f"of-{call}": "what is said of this call's contract" for call in ("keys", "values", "read", "key-start", "value-start", "report", "girth-read", "girth-report")}
 
 NAME = r"[^\s:(){}.,;]+"
 
@@ -173,8 +172,10 @@ def library(text):
 
 
 def modules(text):
-    """The names that a file gives modules."""
-    return re.findall(r"^use [^{\n]* as (\w+)$", text, re.M)
+    """The names that a file gives modules, but for those of a call's contract, which are the call's name and Reads or Kinds."""
+    for path, name in re.findall(r"^use ([^{\n]*) as (\w+)$", text, re.M):
+        if folded(name) != folded("".join(path.split(".")[-2:])):
+            yield name
 
 
 def renamed(text):

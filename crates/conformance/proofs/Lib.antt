@@ -1,5 +1,5 @@
--- The calls' contracts are steps of a way of working.
-pub mod Tied
-pub mod Totality
+-- Contracts as callers learn them: steps of ways of working, and calls on files.
+pub mod Steps
 pub mod Lists
+pub mod Totality
 pub mod Placing

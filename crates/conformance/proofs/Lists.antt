@@ -7,14 +7,16 @@ use Rattle.history.specs.Run.{Store, State, Answer, stateAfter, answers, askTab
 use Rattle.history.specs.Demand3.{History, empty, table, used}
 use Rattle.history.proofs.Demand.{demand3}
 use Rattle.conformance.specs.Worked.{Worked, done, next, CarriedOut, WorkedIs}
+use Rattle.conformance.proofs.Steps.{steps}
 
 worked : (s : State) (cs : List Call) (xs : List Answer) (s′ : State) → Worked s cs xs s′ → (answers s cs ≡ xs) × (stateAfter s cs ≡ s′)
 unfolding answers stateAfter
 worked s [] xs s′ done = (refl, refl)
 worked s (c ∷ cs) (x ∷ xs) s″ (next {s′ = s′} p w) =
+    let q = steps s c x s′ p in
     let r = worked s′ cs xs s″ w in (
-      ap₂ _∷_ (p .0) (ap (λ (t : State). answers t cs) (p .1) ∙ r .0),
-      ap (λ (t : State). stateAfter t cs) (p .1) ∙ r .1,
+      ap₂ _∷_ (q .0) (ap (λ (t : State). answers t cs) (q .1) ∙ r .0),
+      ap (λ (t : State). stateAfter t cs) (q .1) ∙ r .1,
     )
 
 tables : (h : History) (xs : List Answer) (s : State) → CarriedOut h xs s → (i : ℕ) → s .tables i ≡ table h i
@@ -22,6 +24,7 @@ tables h xs s w i = ap (λ (t : State). t .tables i) (sym (worked (empty h) (h .
 
 pub worked-is : WorkedIs
 worked-is = record {
+  called-is = steps;
   as-listed = worked;
   answers-are = λ h xs s w. sym (worked (empty h) (h .calls) xs s w .0) ∙ demand3 .answered h;
   tables-are = tables;
@@ -30,4 +33,6 @@ worked-is = record {
     ap used (tables h xs s w i) ∙ demand3 .same-bytes h h′ i j e ∙ sym (ap used (tables h′ xs′ s′ w′ j)),
     λ q. ap (λ (t : Store). askTable t q) (tables h xs s w i) ∙ demand3 .same-answer h h′ i j q e ∙ sym (ap (λ (t : Store). askTable t q) (tables h′ xs′ s′ w′ j)),
   );
+  work-cleared = λ κs a z e l. l .1 .1;
+  girth-work-cleared = λ κs a z e l. l .1 .1;
 }

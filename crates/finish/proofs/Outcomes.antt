@@ -4,15 +4,18 @@ use mathlib.Core.Path.{_≡_, refl, sym, ap, subst}
 use mathlib.Core.Bool.{Bool, true, false, not, cond}
 use mathlib.Core.List.{List, [], _∷_}
 use mathlib.Core.Option.{Option, none, some}
-use Prim.Native.Nat.{ℕ}
+use Prim.Native.Nat.{ℕ, _^_}
 use native.Mathlib.Nat.{lt-irrefl}
 use native.Mathlib.Omega.{arith}
-use lib.Dec.{T}
-use lib.IntN.{ℤ}
-use lib.Ieee.{Float}
+use lib.Dec.{T, eqb}
+use lib.IntN.{ℤ, natAbs}
+use lib.Signed.{nonNeg}
+use lib.Ieee.{Float, binary64, ofBits, toBits}
+use lib.Ieee.Bits.{ofBits-toBits}
+use lib.Ieee.Fits.{round-fits}
 use lib.Ieee.Scale.{finite}
-use Rattle.refusal.specs.Outcome.{Outcome, accepted, refused, Ground, ground, outcome, IsLowest, risingFrom}
-use Rattle.refusal.proofs.Outcomes.{accepted≢refused, accepted-not, accepted-value, lowest, refused-alike}
+use Rattle.refusal.specs.Outcome.{Outcome, accepted, refused, Ground, ground, outcome, IsLowest, risingFrom, isRefusal, isGround}
+use Rattle.refusal.proofs.Outcomes.{accepted≢refused, accepted-not, accepted-value, lowest, refused-alike, not-given}
 use Rattle.record.specs.Sound.{sound, soundRecord}
 use Rattle.record.specs.Section.{Section, kept, meaning, sections, find}
 use Rattle.finish.specs.Sum.{nearestDouble, tooLarge}
@@ -85,12 +88,12 @@ line-given s l e =
 -- ---- on a table
 
 module _ {A : Type 0} (gs : Section → List Ground) (v : Section → A) (s : List ℕ) (g k : ℕ) where
-  -- an answer that is accepted is that of a section that is there
-  pub section-given : (x : A) → accepted x ≡ finishing (finishedBy gs v) s g k → (t : Section) × (outcome (gs t) (v t) ≡ accepted x)
+  -- an answer that is accepted is that of the section that is found
+  pub section-given : (x : A) → accepted x ≡ finishing (finishedBy gs v) s g k → (t : Section) × (outcome (gs t) (v t) ≡ accepted x) × (find k (sections s g) ≡ some t)
   section-given x e = by (sound s g) (find k (sections s g)) e
     where
-      by : (b : Bool) (o : Option Section) → accepted x ≡ cond b (finishedBy gs v o) (refused 7) → (t : Section) × (outcome (gs t) (v t) ≡ accepted x)
-      by true (some t) q = (t, sym q)
+      by : (b : Bool) (o : Option Section) → accepted x ≡ cond b (finishedBy gs v o) (refused 7) → (t : Section) × (outcome (gs t) (v t) ≡ accepted x) × (o ≡ some t)
+      by true (some t) q = (t, sym q, refl)
       by true none q = absurd (accepted≢refused (sym q))
       by false o q = absurd (accepted≢refused (sym q))
 
@@ -108,6 +111,12 @@ module _ {A : Type 0} (gs : Section → List Ground) (v : Section → A) (s : Li
       by true none q = ap refused cc
       by true (some t) q = refused-alike (gs t) (v t) n q
 
+-- a number that is neither 13 nor one of the section's own is not given
+pub finished-not : {A : Type 0} (n : ℕ) (gs : Section → List Ground) (v : Section → A) → eqb n 13 ≡ false → ((t : Section) → isGround n (gs t) ≡ false) → (o : Option Section) → isRefusal n (finishedBy gs v o) ≡ false
+unfolding isRefusal
+finished-not n gs v e h none = e
+finished-not n gs v e h (some t) = not-given n (gs t) (v t) (h t)
+
 pub sum-lowest : (s : List ℕ) (g k : ℕ) {n : ℕ} → sumOutcome s g k ≡ refused n → IsLowest n (finishingGrounds sumGrounds s g k)
 sum-lowest s g k = finishing-lowest sumGrounds sumFor s g k (λ t. refl)
 
@@ -124,9 +133,14 @@ finite-outcome TooLarge s g k e = tt
 finite-outcome NotSound s g k e = tt
 finite-outcome (Finite x) s g k e = let t = section-given sumGrounds sumFor s g k x e in sum-given (t .0) x (t .1) .finite-sum
 
--- and so is the sum of a line
+-- so is the sum of a line
 pub finite-line : (l : FinishedLine) (s : List ℕ) (g k : ℕ) → accepted l ≡ lineOutcome s g k → T (finite (l .sum))
 finite-line l s g k e = let t = section-given figureGrounds lineFor s g k l e in line-given (t .0) l (t .1) .finite-sum
+
+-- its bits are read back as the float itself
+pub bits-back : (k : ℤ) → ofBits binary64 (toBits binary64 (nearestDouble k)) ≡ nearestDouble k
+unfolding nearestDouble
+bits-back k = ofBits-toBits binary64 (nearestDouble k) (round-fits binary64 (not (nonNeg k)) (natAbs k) (2 ^ 1074))
 
 -- ---- the line of a figure
 

@@ -9,6 +9,7 @@ use Rattle.refusal.proofs.Outcomes.{not-given}
 use Rattle.record.specs.Sound.{sound}
 use Rattle.record.specs.Section.{Section, sections}
 use Rattle.finish.specs.Finish.{sumFor, figureFor, lineFor, sumGrounds, figureGrounds, finishedBy, finishing, sumOf, figureOf, lineOf}
+use Rattle.finish.proofs.Outcomes.{finished-not}
 use Rattle.columns.specs.Columns.{Row}
 use Rattle.history.specs.Rows.{SameRows, sectionBits}
 use Rattle.history.specs.Canonical.{sectionIf, canonical}
@@ -36,13 +37,8 @@ ask-same (figure k) xs ys h = ap (λ o. figureIs (figureOf o)) (section-same k x
 ask-same (line k) xs ys h = ap (λ o. lineIs (lineOf o)) (section-same k xs ys h)
 
 -- ---- no answer is 7
-finished-not-7 : {A : Type 0} (gs : Section → List Ground) (v : Section → A) → ((t : Section) → isGround 7 (gs t) ≡ false) → (o : Option Section) → isRefusal 7 (finishedBy gs v o) ≡ false
-unfolding isRefusal
-finished-not-7 gs v h none = refl
-finished-not-7 gs v h (some t) = not-given 7 (gs t) (v t) (h t)
-
 pub ask-not-7 : (rows : List Row) (q : Question) → refuses 7 (askRows rows q) ≡ false
 unfolding askRows
-ask-not-7 rows (sum k) = finished-not-7 sumGrounds sumFor (λ t. refl) (sectionIf k (sectionBits k rows))
-ask-not-7 rows (figure k) = finished-not-7 figureGrounds figureFor (λ t. refl) (sectionIf k (sectionBits k rows))
-ask-not-7 rows (line k) = finished-not-7 figureGrounds lineFor (λ t. refl) (sectionIf k (sectionBits k rows))
+ask-not-7 rows (sum k) = finished-not 7 sumGrounds sumFor refl (λ t. refl) (sectionIf k (sectionBits k rows))
+ask-not-7 rows (figure k) = finished-not 7 figureGrounds figureFor refl (λ t. refl) (sectionIf k (sectionBits k rows))
+ask-not-7 rows (line k) = finished-not 7 figureGrounds lineFor refl (λ t. refl) (sectionIf k (sectionBits k rows))

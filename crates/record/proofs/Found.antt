@@ -6,7 +6,7 @@ use mathlib.Core.Option.{none, some}
 use Prim.Native.Nat.{ℕ, zero, suc, _+_, _*_, _≤_, _<_}
 use native.Mathlib.Nat.{lt-irrefl}
 use native.Mathlib.Omega.{arith}
-use borrow.Author.Tests.{eq-eqb, ne-eqb, eqb-false}
+use borrow.Author.Tests.{eq-eqb, ne-eqb, eqb-true, eqb-false}
 use lib.Dec.{T, eqb}
 use lib.ListN.{length, getD}
 use Rattle.codec.proofs.Cells.{length-cells}
@@ -14,7 +14,7 @@ use Rattle.record.specs.declared.Record.{Record}
 use Rattle.record.specs.declared.Place.the-variants.{Index, Gap}
 use Rattle.record.specs.Layout.{records, recordAt, decode}
 use Rattle.record.specs.Keys.{recordKeys, rising, has, place}
-use Rattle.record.specs.Section.{meaning, sections, find}
+use Rattle.record.specs.Section.{Section, meaning, sections, find}
 use Rattle.record.specs.Sound.{sound, soundRecord}
 use Rattle.record.proofs.Laws.{getD-records, length-keys}
 use Rattle.record.proofs.Order.{rising-tail, rising-lt, place-is-at, place-is-gap}
@@ -61,3 +61,13 @@ module _ (s : List ℕ) (g k i : ℕ) (h : T (sound s g)) where
 
   pub missing : Gap i ≡ place k (recordKeys (records s g)) → find k (sections s g) ≡ none
   missing e = find-none k (records s g) (place-is-gap k (recordKeys (records s g)) i e .1)
+
+-- a section that is found has the number that was looked for
+pub find-key : (k : ℕ) (ts : List Section) {t : Section} → find k ts ≡ some t → t .key ≡ k
+unfolding find
+find-key k [] e = let z : _≡_ {A = ℕ} 0 1 = cc in absurd (lt-irrefl 0 (omega arith))
+find-key k (u ∷ ts) {t} e = by (eqb k (u .key)) (eqb-true k (u .key)) (find-key k ts) e
+  where
+    by : (b : Bool) → (b ≡ true → k ≡ u .key) → (find k ts ≡ some t → t .key ≡ k) → cond b (some u) (find k ts) ≡ some t → t .key ≡ k
+    by true q ih e = let s : u ≡ t = cc in ap (λ (x : Section). x .key) (sym s) ∙ sym (q refl)
+    by false q ih e = ih e

@@ -1,0 +1,128 @@
+-- A call by its contract is a step of a list of calls. An exported call says its outcome by a number, from which it is read back: no refusal has the number 0, and
+-- the bits of a sum are its own.
+use Prim.Native.Nat.{ℕ, zero, suc}
+use mathlib.Core.Path.{_≡_, refl, sym, ap, ap₂, subst, _∙_}
+use mathlib.Core.Bool.{Bool, true, false, cond}
+use mathlib.Core.List.{List}
+use native.Mathlib.Omega.{arith}
+use lib.IntN.{ℤ, pos}
+use lib.Ieee.{Float, binary64, ofBits}
+use lib.ListN.{length}
+use denote.Ref.{now}
+use Rattle.refusal.specs.Outcome.{Outcome, accepted, refused, Ground, isRefusal, isGround}
+use Rattle.refusal.proofs.Outcomes.{not-given}
+use Rattle.columns.specs.declared.Kind.the-variants.{Double}
+use Rattle.table.specs.Calls.{columnGrounds, addGrounds, addSections, addOutcome, mergeGrounds, mergeSections, mergeOutcome}
+use Rattle.record.specs.Sound.{sound}
+use Rattle.record.specs.Section.{Section, kept, sections, find}
+use Rattle.record.proofs.Found.{find-key}
+use Rattle.finish.specs.declared.FinishedLine.{FinishedLine}
+use Rattle.finish.specs.Finish.{sumFor, figureFor, lineFor, sumGrounds, figureGrounds, finishedBy, finishing, sumOutcome, figureOutcome, lineOutcome}
+use Rattle.finish.proofs.Outcomes.{section-given, finished-not, sum-given, line-given, bits-back}
+use Rattle.exports.specs.Calls.{returnsCount, returnsZero, writes, doubleBits}
+use Rattle.history.specs.Calls.{Call}
+use Rattle.history.specs.Run.{State, Answer, setTable, after, step, groupsAre, sumIs, figureIs, lineIs, askTable, answer}
+use Rattle.conformance.specs.Called.{countSaid, valuesSaid, Called, by-add, by-girth-add, by-merge, by-girth-merge, by-sum, by-figure, by-line, by-girth-sum, by-girth-figure, by-girth-line}
+
+-- ---- outcomes read back
+
+count-said : (o : Outcome ℕ) → isRefusal 0 o ≡ false → countSaid (returnsCount o) ≡ o
+unfolding isRefusal
+count-said (accepted n) e = refl
+count-said (refused zero) e = absurd (let z : _≡_ {A = ℕ} 0 1 = cc in omega arith)
+count-said (refused (suc n)) e = refl
+
+-- from a number z that a call returned for o
+counted : (o : Outcome ℕ) → isRefusal 0 o ≡ false → {z : ℤ} → z ≡ returnsCount o → countSaid z ≡ o
+counted o n q = ap countSaid q ∙ count-said o n
+
+-- from z and the values y that it wrote out, which f reads
+given-out : {A : Type 0} (o : Outcome A) (y : A) {z : ℤ} → isRefusal 0 o ≡ false → ((x : A) → o ≡ accepted x → y ≡ x) → z ≡ returnsZero o → valuesSaid y z ≡ o
+unfolding isRefusal
+given-out {A} o y n f q = ap (valuesSaid y) q ∙ by o n f
+  where
+    by : (o : Outcome A) → isRefusal 0 o ≡ false → ((x : A) → o ≡ accepted x → y ≡ x) → valuesSaid y (returnsZero o) ≡ o
+    by (accepted x) n f = ap accepted (f x refl)
+    by (refused zero) n f = absurd (let z : _≡_ {A = ℕ} 0 1 = cc in omega arith)
+    by (refused (suc m)) n f = refl
+
+-- no call is refused with 0
+add-not-0 : (s : List ℕ) (g : ℕ) (ks vs : List ℕ) (workLen : ℕ) → isRefusal 0 (addOutcome Double s g ks vs workLen) ≡ false
+unfolding addGrounds columnGrounds
+add-not-0 s g ks vs workLen = not-given 0 (addGrounds Double s g ks vs workLen) (length (addSections Double s g ks vs)) refl
+
+merge-not-0 : (s : List ℕ) (g : ℕ) (s′ : List ℕ) (g′ : ℕ) → isRefusal 0 (mergeOutcome s g s′ g′) ≡ false
+unfolding mergeGrounds
+merge-not-0 s g s′ g′ = not-given 0 (mergeGrounds s g s′ g′) (length (mergeSections s g s′ g′)) refl
+
+finishing-not-0 : {A : Type 0} (gs : Section → List Ground) (v : Section → A) → ((t : Section) → isGround 0 (gs t) ≡ false) → (s : List ℕ) (g k : ℕ) → isRefusal 0 (finishing (finishedBy gs v) s g k) ≡ false
+unfolding isRefusal
+finishing-not-0 gs v h s g k = by (sound s g)
+  where
+    by : (b : Bool) → isRefusal 0 (cond b (finishedBy gs v (find k (sections s g))) (refused 7)) ≡ false
+    by true = finished-not 0 gs v refl h (find k (sections s g))
+    by false = refl
+
+-- ---- what is written out, read back
+module _ (s : List ℕ) (g k : ℕ) where
+  sum-back : (x : Float) → sumOutcome s g k ≡ accepted x → ofBits binary64 (doubleBits x) ≡ x
+  sum-back x e =
+      let t = section-given sumGrounds sumFor s g k x (sym e) in
+      subst (λ (y : Float). ofBits binary64 (doubleBits y) ≡ y) (sum-given (t .0) x (t .1) .is) (bits-back (kept (t .0)))
+
+  sum-read : {z : ℤ} {b : ℕ} → z ≡ returnsZero (sumOutcome s g k) → b ≡ writes 0 doubleBits (sumOutcome s g k) → valuesSaid (ofBits binary64 b) z ≡ sumOutcome s g k
+  sum-read q w =
+      given-out (sumOutcome s g k) _ (finishing-not-0 sumGrounds sumFor (λ t. refl) s g k)
+      (λ x e. ap (ofBits binary64) (w ∙ ap (writes 0 doubleBits) e) ∙ sum-back x e) q
+
+  figure-read : {z y : ℤ} → z ≡ returnsZero (figureOutcome s g k) → y ≡ writes (pos 0) (λ (f : ℤ). f) (figureOutcome s g k) → valuesSaid y z ≡ figureOutcome s g k
+  figure-read q w =
+      given-out (figureOutcome s g k) _ (finishing-not-0 figureGrounds figureFor (λ t. refl) s g k) (λ x e. w ∙ ap (writes (pos 0) (λ (f : ℤ). f)) e) q
+
+  -- the line is that of the section found: its number is k, its sum that section's
+  line-back : (l : FinishedLine) → lineOutcome s g k ≡ accepted l → (k ≡ l .key) × (ofBits binary64 (doubleBits (l .sum)) ≡ l .sum)
+  line-back l e =
+      let t = section-given figureGrounds lineFor s g k l (sym e) in
+      let is = line-given (t .0) l (t .1) .is in (
+        sym (find-key k (sections s g) (t .2)) ∙ ap (λ (x : FinishedLine). x .key) is,
+        subst (λ (y : Float). ofBits binary64 (doubleBits y) ≡ y) (ap (λ (x : FinishedLine). x .sum) is) (bits-back (kept (t .0))),
+      )
+
+  line-read : {z f : ℤ} {n b : ℕ} → z ≡ returnsZero (lineOutcome s g k) → n ≡ writes 0 (λ (l : FinishedLine). l .count) (lineOutcome s g k)
+      → b ≡ writes 0 (λ (l : FinishedLine). doubleBits (l .sum)) (lineOutcome s g k) → f ≡ writes (pos 0) (λ (l : FinishedLine). l .figure) (lineOutcome s g k)
+      → valuesSaid (record { key = k; count = n; sum = ofBits binary64 b; figure = f }) z ≡ lineOutcome s g k
+  line-read q wn wb wf =
+      given-out (lineOutcome s g k) _ (finishing-not-0 figureGrounds lineFor (λ t. refl) s g k)
+      (λ l e.
+      let p = line-back l e in
+      let n = wn ∙ ap (writes 0 (λ (l : FinishedLine). l .count)) e in
+      let b = ap (ofBits binary64) (wb ∙ ap (writes 0 (λ (l : FinishedLine). doubleBits (l .sum))) e) ∙ p .1 in
+      let f = wf ∙ ap (writes (pos 0) (λ (l : FinishedLine). l .figure)) e in
+      λ i. record { key = p .0 i; count = n i; sum = b i; figure = f i }) q
+
+pub steps : (s : State) (c : Call) (x : Answer) (s′ : State) → Called s c x s′ → (answer s c ≡ x) × (step s c ≡ s′)
+unfolding answer step askTable
+steps s c x s′ (by-add i κs a z e b p l) = (
+  rw (p .0, p .1) (ap groupsAre (sym (l .0))),
+  rw (p .0, p .1) (ap₂ (λ (o : Outcome ℕ) (b : List ℕ). setTable i (after o b (a .1 .0)) s) (sym (l .0)) (sym (l .1 .0))),
+)
+steps s c x s′ (by-girth-add i κs a z e b p l) =
+    let q = counted (addOutcome Double (now (a .0)) (a .1 .0) (now (a .1 .1 .0)) (now (a .1 .1 .1 .0)) (length (now (a .1 .1 .1 .1 .0)))) (add-not-0 _ _ _ _ _) (l .0) in (
+      rw (p .0, p .1) (ap groupsAre (sym q)),
+      rw (p .0, p .1) (ap₂ (λ (o : Outcome ℕ) (b : List ℕ). setTable i (after o b (a .1 .0)) s) (sym q) (sym (l .1 .0))),
+    )
+steps s c x s′ (by-merge i j apart κs a z e p q l) = (
+  rw (p .0, p .1, q .0, q .1) (ap groupsAre (sym (l .0))),
+  rw (p .0, p .1, q .0, q .1) (ap₂ (λ (o : Outcome ℕ) (b : List ℕ). setTable i (after o b (a .1 .0)) s) (sym (l .0)) (sym (l .1))),
+)
+steps s c x s′ (by-girth-merge i j apart κs a z e p q l) =
+    let r = counted (mergeOutcome (now (a .0)) (a .1 .0) (now (a .1 .1 .0)) (a .1 .1 .1 .0)) (merge-not-0 _ _ _ _) (l .0) in (
+      rw (p .0, p .1, q .0, q .1) (ap groupsAre (sym r)),
+      rw (p .0, p .1, q .0, q .1) (ap₂ (λ (o : Outcome ℕ) (b : List ℕ). setTable i (after o b (a .1 .0)) s) (sym r) (sym (l .1))),
+    )
+steps s c x s′ (by-sum i κs a z e p l) = (rw (p .0, p .1) (ap sumIs (sym l)), refl)
+steps s c x s′ (by-figure i κs a z e p l) = (rw (p .0, p .1) (ap figureIs (sym l)), refl)
+steps s c x s′ (by-line i κs a z e p l) = (rw (p .0, p .1) (ap lineIs (sym l)), refl)
+steps s c x s′ (by-girth-sum i κs a z e p l) = (rw (p .0, p .1) (ap sumIs (sym (sum-read _ _ _ (l .0) (l .1)))), refl)
+steps s c x s′ (by-girth-figure i κs a z e p l) = (rw (p .0, p .1) (ap figureIs (sym (figure-read _ _ _ (l .0) (l .1)))), refl)
+steps s c x s′ (by-girth-line i κs a z e p l) = (rw (p .0, p .1) (ap lineIs (sym (line-read _ _ _ (l .0) (l .1 .0) (l .1 .1 .0) (l .1 .1 .1)))), refl)

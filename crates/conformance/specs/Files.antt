@@ -1,0 +1,37 @@
+-- The calls on a file, as their callers learn them: what the reader and the report answer and leave.
+use mathlib.Core.Path.{_≡_}
+use contract.Lifetimes.{Lfts}
+use borrow.Fn.Kinds.{Dens, endedOf, resT}
+use denote.Triple.Clauses.{AtExit}
+use denote.Ref.{now}
+use Rattle.columns.specs.declared.Kind.the-variants.{Double}
+use Rattle.patch.specs.File.{readOutcome, keyStart, valueStart}
+use Rattle.patch.specs.Answer.{readAnswer}
+use Rattle.report.specs.Text.{reportText}
+use Rattle.report.specs.Answer.{printedAnswer, printOutcome, printLeaves}
+use Rattle.exports.specs.Calls.{returnsCount}
+use Rattle.patch.proofs.read.Reads as readReads
+use Rattle.patch.proofs.read.Kinds as readKinds
+use Rattle.patch.proofs.key_start.Reads as keyStartReads
+use Rattle.patch.proofs.key_start.Kinds as keyStartKinds
+use Rattle.patch.proofs.value_start.Reads as valueStartReads
+use Rattle.patch.proofs.value_start.Kinds as valueStartKinds
+use Rattle.report.proofs.report.Reads as reportReads
+use Rattle.report.proofs.report.Kinds as reportKinds
+use Rattle.exports.proofs.girth_read.Reads as girthReadReads
+use Rattle.exports.proofs.girth_read.Kinds as girthReadKinds
+use Rattle.exports.proofs.girth_report.Reads as girthReportReads
+use Rattle.exports.proofs.girth_report.Kinds as girthReportKinds
+
+-- a is the file, and after it what is lent for writing, which e has at the end
+pub record Files : Type 1 where
+  pub of-read : (κs : Lfts 1) (a : Dens κs readKinds.ps) (z : resT readKinds.r κs .Denot) (e : AtExit (endedOf 1 readKinds.ps readKinds.r) κs) → readReads.Learnt κs a z e
+      → readAnswer z ≡ readOutcome Double (now (a .0))
+  pub of-key-start : (κs : Lfts 1) (a : Dens κs keyStartKinds.ps) (z : resT keyStartKinds.r κs .Denot) (e : AtExit (endedOf 1 keyStartKinds.ps keyStartKinds.r) κs) → keyStartReads.Learnt κs a z e → z ≡ keyStart Double (now (a .0))
+  pub of-value-start : (κs : Lfts 1) (a : Dens κs valueStartKinds.ps) (z : resT valueStartKinds.r κs .Denot) (e : AtExit (endedOf 1 valueStartKinds.ps valueStartKinds.r) κs) → valueStartReads.Learnt κs a z e → z ≡ valueStart Double (now (a .0))
+  pub of-girth-read : (κs : Lfts 3) (a : Dens κs girthReadKinds.ps) (z : resT girthReadKinds.r κs .Denot) (e : AtExit (endedOf 3 girthReadKinds.ps girthReadKinds.r) κs) → girthReadReads.Learnt κs a z e
+      → (z ≡ returnsCount (readOutcome Double (now (a .0)))) × (now (e .1 .0) ≡ keyStart Double (now (a .0))) × (now (e .1 .1 .0) ≡ valueStart Double (now (a .0)))
+  pub of-report : (κs : Lfts 2) (a : Dens κs reportKinds.ps) (z : resT reportKinds.r κs .Denot) (e : AtExit (endedOf 2 reportKinds.ps reportKinds.r) κs) → reportReads.Learnt κs a z e
+      → (printedAnswer z ≡ printOutcome (now (a .1 .0)) (reportText (now (a .0)))) × (now (e .1 .0) ≡ printLeaves (now (a .1 .0)) (reportText (now (a .0))))
+  pub of-girth-report : (κs : Lfts 2) (a : Dens κs girthReportKinds.ps) (z : resT girthReportKinds.r κs .Denot) (e : AtExit (endedOf 2 girthReportKinds.ps girthReportKinds.r) κs) → girthReportReads.Learnt κs a z e
+      → (z ≡ returnsCount (printOutcome (now (a .1 .0)) (reportText (now (a .0))))) × (now (e .1 .0) ≡ printLeaves (now (a .1 .0)) (reportText (now (a .0))))
