@@ -17,7 +17,7 @@ use Rattle.level.specs.Double.{signed, negative, magnitude, value}
 use Rattle.finish.specs.Figure.{HalfUp, millFigure}
 use Rattle.limbs.specs.Nearest.{nearestBy}
 use Rattle.limbs.proofs.Nearest.{le-or-lt, nearest-within}
-use Rattle.finish.proofs.Whole.{signed-mul}
+use Rattle.level.proofs.Signs.{signed-mul}
 use Rattle.finish.proofs.Fraction.{bits-figure}
 
 -- z is at most half a unit u above v, and less than half a unit below

@@ -7,14 +7,15 @@ use native.Mathlib.Nat.{mul-pos, mul-div-cancel, lt-irrefl, zero-mul, lt-of-lt-o
 use native.Mathlib.Omega.{arith}
 use borrow.Author.Tests.{le-ltb}
 use lib.Dec.{T, lit≤}
-use lib.Pow.{pow-add, pow-pos}
+use lib.Pow.{pow-pos}
 use lib.IntN.{ℤ, pos, negsuc, _+ℤ_, _*ℤ_, natAbs}
 use lib.Signed.{nonNeg}
 use mir.Syntax.{w64}
 use mir.Val.{toZ, ofZ}
 use Rattle.integers.proofs.Diff.{_⊝_, ints, byParts, byParts₃}
-use Rattle.integers.proofs.Laws.{natAbs-neg, negℤ-*ℤ, back}
-use Rattle.level.proofs.Signs.{natAbs-signed}
+use Rattle.integers.proofs.Laws.{natAbs-scale, back}
+use Rattle.level.proofs.Signs.{natAbs-signed, signed-mul}
+use Rattle.level.proofs.Given.{unit-suc}
 use Rattle.level.specs.Double.{signed}
 use Rattle.level.specs.Level.{unit}
 use Rattle.level.specs.Carry.{carryBase, totalOf, InRange}
@@ -28,31 +29,26 @@ use Rattle.finish.specs.Raised.{carryRaise, totalRaise, raisedCarry, rai
 
 -- ---- the kept value, 80 digits up
 
-weighed : (w c : ℕ) (x y z : ℤ) → (x *ℤ pos (w * c * c) +ℤ y *ℤ pos (w * c) +ℤ z *ℤ pos w) *ℤ pos (c * c) ≡ (z +ℤ pos c *ℤ y +ℤ pos (c * c) *ℤ x) *ℤ pos (w * c * c)
-weighed w c = byParts₃ _ (λ a b d e f g. simp ints (omega arith))
-
-top-one : (x y : ℤ) → (x *ℤ pos (2 ^ 40) +ℤ y *ℤ pos 1 +ℤ pos 0 *ℤ pos 1) *ℤ pos (2 ^ 80) ≡ (pos 0 +ℤ pos (2 ^ 40) *ℤ y +ℤ pos (2 ^ 80) *ℤ x) *ℤ pos (2 ^ 40)
-top-one x = byParts _ (λ a b. byParts (λ (x : ℤ). (x *ℤ pos (2 ^ 40) +ℤ (a ⊝ b) *ℤ pos 1 +ℤ pos 0 *ℤ pos 1) *ℤ pos (2 ^ 80) ≡ (pos 0 +ℤ pos (2 ^ 40) *ℤ (a ⊝ b) +ℤ pos (2 ^ 80) *ℤ x) *ℤ pos (2 ^ 40)) (λ d e. simp ints (omega arith)) x)
-
-top-zero : (x : ℤ) → (x *ℤ pos 1 +ℤ pos 0 *ℤ pos 1 +ℤ pos 0 *ℤ pos 1) *ℤ pos (2 ^ 80) ≡ (pos 0 +ℤ pos (2 ^ 40) *ℤ pos 0 +ℤ pos (2 ^ 80) *ℤ x) *ℤ pos 1
-top-zero = byParts _ (λ a b. simp ints (omega arith))
-
-unit-suc : (j : ℕ) → unit (suc j) ≡ unit j * 2 ^ 40
-unit-suc j = let e : 40 * suc j ≡ 40 * j + 40 = omega arith in ap (λ (x : ℕ). 2 ^ x) e ∙ pow-add 2 (40 * j) 40
-
 -- the three totals, each 40 digits above the next
 abbrev stacked : ℤ → ℤ → ℤ → ℤ
 stacked x y z = z +ℤ pos (2 ^ 40) *ℤ y +ℤ pos (2 ^ 80) *ℤ x
 
+-- three numbers at the weights u, v and w, where each weight is 2^40 times the next one, but for numbers that are 0
+weighed : (u v w : ℕ) (x y z : ℤ) → y *ℤ pos u ≡ y *ℤ pos (2 ^ 40 * v) → z *ℤ pos u ≡ z *ℤ pos (2 ^ 40 * v) → z *ℤ pos v ≡ z *ℤ pos (2 ^ 40 * w)
+    → (x *ℤ pos u +ℤ y *ℤ pos v +ℤ z *ℤ pos w) *ℤ pos (2 ^ 80) ≡ stacked x y z *ℤ pos u
+weighed u v w = byParts₃ _ (λ a b c d e f. simp ints (λ h k l. omega arith))
+
+-- one level down is 40 digits down, for a number that is 0 where there is no such level
+level-down : (t : ℕ) (y : ℤ) → (t < 1 → y ≡ pos 0) → y *ℤ pos (unit t) ≡ y *ℤ pos (2 ^ 40 * unit (t - 1))
+level-down zero y h = rw (h (omega arith)) (ap pos (omega arith))
+level-down (suc j) y h = let e : suc j - 1 ≡ j = omega arith in rw (e, unit-suc j)
+
 kept-up : (t : ℕ) (x y z : ℤ) → (t < 1 → y ≡ pos 0) → (t < 2 → z ≡ pos 0)
     → (x *ℤ pos (unit t) +ℤ y *ℤ pos (unit (t - 1)) +ℤ z *ℤ pos (unit (t - 2))) *ℤ pos (2 ^ 80) ≡ stacked x y z *ℤ pos (unit t)
-kept-up zero x y z h k = rw (h (omega arith), k (omega arith)) (top-zero x)
-kept-up (suc zero) x y z h k = rw (k (omega arith)) (top-one x y)
-kept-up (suc (suc j)) x y z h k =
-    let p : suc (suc j) - 1 ≡ suc j = omega arith in
-    let q : suc (suc j) - 2 ≡ j = omega arith in
-    let u : unit (suc (suc j)) ≡ unit j * 2 ^ 40 * 2 ^ 40 = unit-suc (suc j) ∙ ap (λ (w : ℕ). w * 2 ^ 40) (unit-suc j) in
-    rw (p, q, u, unit-suc j) (weighed (unit j) (2 ^ 40) x y z)
+kept-up t x y z h k =
+    let lower : t - 1 - 1 ≡ t - 2 = omega arith in
+    weighed (unit t) (unit (t - 1)) (unit (t - 2)) x y z
+    (level-down t y h) (level-down t z (λ l. k (omega arith))) (rw lower at (level-down (t - 1) z (λ l. k (omega arith))))
 
 -- ---- a total is its raised total less 2^72
 
@@ -75,9 +71,6 @@ carry-read c r h e =
     let f : r ≡ c +ℤ pos (carryRaise) = e ∙ ap (λ (z : ℤ). z +ℤ pos (carryRaise)) (back c (omega arith)) in
     ap (λ (z : ℤ). toZ w64 (ofZ w64 z)) f ∙ back (c +ℤ pos (carryRaise)) (lt-of-lt-of-le (carry-fits c h .1) (lit≤ tt))
 
-pub carry-back : (c : ℤ) → natAbs c < carryRaise → toZ w64 (ofZ w64 c) ≡ c
-carry-back c h = back c (omega arith)
-
 total-of : (n s : ℕ) → (n ⊝ carryRaise) *ℤ pos (carryBase) +ℤ pos s ≡ (s + carryBase * n) ⊝ totalRaise
 total-of n s = simp ints (omega arith)
 
@@ -93,20 +86,12 @@ difference-is : (s : Bool) (v p q : ℕ) → SignedDifference s v p q → p ⊝ 
 difference-is false v p q e = simp ints (omega arith)
 difference-is true v p q e = simp ints (omega arith)
 
-scaled-size : (k : ℤ) (c : ℕ) → natAbs (k *ℤ pos c) ≡ natAbs k * c
-scaled-size (pos n) c = refl
-scaled-size (negsuc n) c = natAbs-neg (pos (suc n * c))
-
 -- so the sign of a scaled number is its own
 sign-is : (k : ℤ) (s : Bool) (c m : ℕ) → 0 < c → (s ≡ true → 0 < m) → k *ℤ pos c ≡ signed s m → not (nonNeg k) ≡ s
 sign-is (pos n) true c m l h e = let g = simp ints at e in let p = h refl in absurd (lt-irrefl 0 (omega arith))
 sign-is (pos n) false c m l h e = refl
 sign-is (negsuc n) true c m l h e = refl
 sign-is (negsuc n) false c m l h e = let g = simp ints at e in let p = mul-pos {m = suc n} {n = c} (omega arith) l in absurd (lt-irrefl 0 (omega arith))
-
-pub signed-mul : (s : Bool) (v u : ℕ) → signed s v *ℤ pos u ≡ signed s (v * u)
-signed-mul false v u = refl
-signed-mul true v u = negℤ-*ℤ (pos v) (pos u)
 
 difference-some : (s : Bool) (v p q : ℕ) → SignedDifference s v p q → s ≡ true → 0 < v
 difference-some true v p q e h = e .1
@@ -128,7 +113,7 @@ kept-size r v P Q s l h p q d =
     let up : kept (meaning r) *ℤ pos (2 ^ 80) ≡ signed s (v * unit (r .top)) =
     kept-up (r .top) (totalOf x) (totalOf y) (totalOf z) (λ o. empty-total y (g .second o)) (λ o. empty-total z (g .third o))
     ∙ ap (λ (m : ℤ). m *ℤ pos (unit (r .top))) whole ∙ signed-mul s v (unit (r .top)) in (
-      sym (scaled-size (kept (meaning r)) (2 ^ 80)) ∙ ap natAbs up ∙ natAbs-signed s (v * unit (r .top)),
+      sym (natAbs-scale (kept (meaning r)) (2 ^ 80)) ∙ ap natAbs up ∙ natAbs-signed s (v * unit (r .top)),
       sign-is (kept (meaning r)) s (2 ^ 80) (v * unit (r .top)) (pow-pos 80) (λ e. mul-pos (difference-some s v P Q d e) (pow-pos (40 * r .top))) up,
     )
 

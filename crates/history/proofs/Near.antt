@@ -1,6 +1,6 @@
 -- A section's kept value and the exact sum of its rows: equal at tops up to 2, within half a lowest unit for each row at any top that is at least
 -- every row's, and at the largest top within (the number of its rows) × (its largest row in size) × 2^-80.
-use Prim.Native.Nat.{ℕ, _+_, _-_, _*_, _^_, _≤_, max}
+use Prim.Native.Nat.{ℕ, suc, _-_, _*_, _^_, _≤_, max}
 use mathlib.Core.Path.{_≡_, _∙_}
 use mathlib.Core.List.{List, [], _∷_}
 use native.Mathlib.Omega.{arith}
@@ -8,11 +8,11 @@ use native.Mathlib.Nat.{mul-le-mul-left, le-trans, le-refl, le-max-left, le-max-
 use native.Mathlib.Decide.{decLe}
 use lib.ListN.{length}
 use lib.Dec.{leb·zero}
-use lib.Pow.{pow-add}
-use lib.IntN.{ℤ, pos, _-ℤ_, _*ℤ_, natAbs, +ℤ-idl}
-use Rattle.integers.proofs.Diff.{ints, byParts₂}
+use lib.IntN.{pos, _-ℤ_, _*ℤ_, natAbs, +ℤ-idl}
+use Rattle.integers.proofs.Laws.{apart-comm, apart-none}
 use Rattle.level.specs.Double.{magnitude}
 use Rattle.level.specs.Level.{levelBound, unit, top, levelSum, topOf, total, exactSum}
+use Rattle.level.proofs.Given.{unit-suc}
 use Rattle.level.proofs.Top.{top-least}
 use Rattle.level.proofs.Section.{section-near, section-whole}
 use Rattle.record.specs.Section.{kept}
@@ -33,9 +33,6 @@ module _ (k t : ℕ) (bs : List ℕ) where
   -- half a lowest unit for each row
   pub kept-within : topOf bs ≤ t → natAbs (kept (sectionAtTop k t bs) -ℤ exactSum bs) * 2 ≤ length bs * unit (t - 2)
   kept-within h = rw (kept-levels, apart-comm (levelSum (total bs) t 3) (exactSum bs)) (section-near bs t 2 h)
-    where
-      apart-comm : (x y : ℤ) → natAbs (x -ℤ y) ≡ natAbs (y -ℤ x)
-      apart-comm = byParts₂ _ (λ a b c d. simp ints (omega arith))
 
 -- ---- held at the largest top
 -- from 1 on, the largest row has 2^39 units of the level below
@@ -53,24 +50,17 @@ top-large (b ∷ bs) h = go (top-large bs) (decLe (topOf bs) (top b))
         let m : max (top b) (topOf bs) ≡ topOf bs = omega arith in
         rw m (le-trans (ih (omega arith)) (le-max-right (magnitude b) (largest bs)))
 
-unit-step : (t : ℕ) → 3 ≤ t → unit (t - 1) ≡ 2 ^ 40 * unit (t - 2)
-unit-step t h =
-    let e : 40 * (t - 1) ≡ 40 + 40 * (t - 2) = omega arith in
-    rw e (pow-add 2 40 (40 * (t - 2)))
-
 -- n rows, what they lose R, the unit U of the lowest kept level, the largest row L
 bound : (n R U L : ℕ) → R * 2 ≤ n * U → levelBound * (2 ^ 40 * U) ≤ L → R * 2 ^ 80 ≤ n * L
 bound n R U L h k = omega (arith, mul-le-mul-left n k)
-
-alike : (x y : ℤ) → x ≡ y → natAbs (x -ℤ y) ≡ 0
-alike = byParts₂ _ (λ a b c d. simp ints (omega arith))
 
 pub near : (k : ℕ) (bs : List ℕ) → natAbs (kept (sectionOf k bs) -ℤ exactSum bs) * 2 ^ 80 ≤ length bs * largest bs
 near k bs = go (decLe (topOf bs) 2)
   where
     go : Dec (topOf bs ≤ 2) → natAbs (kept (sectionOf k bs) -ℤ exactSum bs) * 2 ^ 80 ≤ length bs * largest bs
-    go (yes l) = rw (alike (kept (sectionOf k bs)) (exactSum bs) (kept-exact k (topOf bs) bs (le-refl (topOf bs)) l)) (omega arith)
+    go (yes l) = rw (apart-none (kept (sectionOf k bs)) (exactSum bs) (kept-exact k (topOf bs) bs (le-refl (topOf bs)) l)) (omega arith)
     go (no l) =
+        let lower : topOf bs - 1 ≡ suc (topOf bs - 2) = omega arith in
         bound (length bs) (natAbs (kept (sectionOf k bs) -ℤ exactSum bs)) (unit (topOf bs - 2)) (largest bs)
         (kept-within k (topOf bs) bs (le-refl (topOf bs)))
-        (rw (unit-step (topOf bs) (omega arith)) at (top-large bs (omega arith)))
+        (rw (lower, unit-suc (topOf bs - 2)) at (top-large bs (omega arith)))

@@ -1,21 +1,16 @@
 -- A total is its carry and its residue, in one way only.
 use mathlib.Core.Path.{_≡_, sym, ap, ap₂, _∙_}
-use Prim.Native.Nat.{ℕ, zero, suc, _+_, _-_, _*_, _/_, _%_, _^_, _<_}
+use Prim.Native.Nat.{ℕ, suc, _+_, _-_, _*_, _/_, _%_, _^_, _<_}
 use native.Mathlib.Omega.{arith}
-use borrow.Author.Tests.{lt-ltb}
-use lib.IntN.{ℤ, pos, negsuc, negℤ, _+ℤ_, _*ℤ_, +ℤ-assoc}
+use lib.IntN.{ℤ, pos, negsuc, _+ℤ_, _*ℤ_, +ℤ-assoc}
 use Rattle.level.specs.Carry.{carryBase, carryOf, residueOf, splitOf, totalOf}
 use Rattle.level.specs.declared.SplitTotal.{SplitTotal}
-use Rattle.integers.proofs.Laws.{+ℤ-*ℤ}
+use Rattle.integers.proofs.Laws.{+ℤ-*ℤ, neg-add}
 use Rattle.integers.proofs.Diff.{+ℤ-interchange}
 
 pub residue-lt : (z : ℤ) → residueOf z < carryBase
 residue-lt (pos n) = omega arith
 residue-lt (negsuc n) = omega arith
-
-neg-add : (k s : ℕ) → s < k → negℤ (pos k) +ℤ pos s ≡ negsuc (k - suc s)
-neg-add zero s h = absurd (omega arith)
-neg-add (suc k) s h = rw (lt-ltb s (suc k) h)
 
 pub total-split : (z : ℤ) → carryOf z *ℤ pos (carryBase) +ℤ pos (residueOf z) ≡ z
 total-split (pos n) = ap pos (omega arith)

@@ -1,21 +1,25 @@
 -- Integers by sign and size.
 use mathlib.Core.Path.{_≡_, refl, _∙_}
 use mathlib.Core.Bool.{Bool, true, false, cond}
-use Prim.Native.Nat.{ℕ, zero, suc, _+_, _-_, _^_, _<_}
+use Prim.Native.Nat.{ℕ, zero, suc, _+_, _-_, _*_, _^_, _<_}
 use native.Mathlib.Nat.{add-zero, sub-zero}
 use native.Mathlib.Omega.{arith}
 use lib.Dec.{ltb, leb·suc-zero, lit<}
-use lib.IntN.{pos, negsuc, natAbs, subℕ, _-ℤ_}
+use lib.IntN.{pos, negsuc, natAbs, subℕ, _-ℤ_, _*ℤ_}
 use mir.Syntax.{w64}
 use mir.Val.{SFits}
 use borrow.Author.Tests.{ltb-true, ltb-false}
-use Rattle.integers.proofs.Laws.{natAbs-neg}
+use Rattle.integers.proofs.Laws.{natAbs-neg, negℤ-*ℤ}
 use Rattle.level.specs.Double.{signed}
 use Rattle.level.specs.Cut.{absDiff}
 
 pub natAbs-signed : (g : Bool) (n : ℕ) → natAbs (signed g n) ≡ n
 natAbs-signed true n = natAbs-neg (pos n)
 natAbs-signed false n = refl
+
+pub signed-mul : (g : Bool) (n u : ℕ) → signed g n *ℤ pos u ≡ signed g (n * u)
+signed-mul true n u = negℤ-*ℤ (pos n) (pos u)
+signed-mul false n u = refl
 
 -- a difference of two sizes has the size of their distance
 pub sub-signed : (x y : ℕ) → pos x -ℤ pos y ≡ signed (ltb x y) (absDiff x y)

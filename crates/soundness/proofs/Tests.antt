@@ -1,45 +1,29 @@
 -- What the tests of soundness compute: sizes of totals, and keys and records from the front.
-use Prim.Native.Nat.{ℕ, zero, suc, _+_, _-_, _*_, _^_, _<_, _≤_}
-use mathlib.Core.Path.{_≡_, refl, sym, _∙_}
-use mathlib.Core.Bool.{Bool, true, false, _&&_}
+use Prim.Native.Nat.{ℕ, suc, _+_, _-_, _*_, _^_, _<_, _≤_}
+use mathlib.Core.Path.{_≡_, refl, sym, ap, _∙_}
+use mathlib.Core.Bool.{true, false, _&&_}
 use mathlib.Core.List.{List, [], _∷_}
 use native.Mathlib.Omega.{arith}
-use borrow.Author.Tests.{lt-ltb, le-ltb, le-leb, leb-true, ne-eqb}
-use lib.Dec.{ltb, leb, eqb}
-use lib.IntN.{ℤ, pos, negsuc, negℤ, natAbs, _+ℤ_, _*ℤ_}
+use borrow.Author.Tests.{lt-ltb, le-ltb, ne-eqb}
+use lib.Dec.{ltb, eqb}
+use lib.IntN.{ℤ, pos, negsuc, natAbs, _+ℤ_, _*ℤ_}
 use lib.Signed.{ltZ}
 use lib.ListN.{length, getD, drop, length-drop}
 use lib.Seq.{drop-cons}
 use mir.Syntax.{w64}
 use mir.Val.{toZ, ofZ, SFits}
+use Rattle.integers.proofs.Laws.{neg-add}
 use Rattle.level.specs.Carry.{carryBase}
 use Rattle.codec.proofs.Laws.{sign-known, complement-low, low-half}
 use Rattle.record.specs.declared.Record.{Record}
 use Rattle.record.specs.Keys.{rising}
 use Rattle.record.specs.Sound.{soundRecord, soundRecords}
 
--- two tests that hold together are one
-pub leb-same : (a b c d : ℕ) → (a ≤ b → c ≤ d) → (c ≤ d → a ≤ b) → leb a b ≡ leb c d
-leb-same a b c d f g = by (leb a b) refl
-  where
-    by : (t : Bool) → leb a b ≡ t → t ≡ leb c d
-    by true e = sym (le-leb c d (f (leb-true a b e)))
-    by false e = by′ (leb c d) refl
-      where
-        by′ : (u : Bool) → leb c d ≡ u → false ≡ u
-        by′ true q = sym e ∙ le-leb a b (g (leb-true c d q))
-        by′ false q = refl
-
--- the size of a negative total
-size-below : (n s : ℕ) → s < n → natAbs (negℤ (pos n) +ℤ pos s) ≡ n - s
-size-below zero s h = absurd (omega arith)
-size-below (suc n) s h = rw (lt-ltb s (suc n) h) (omega arith)
-
 pub size-negative : (z : ℤ) (s : ℕ) → SFits w64 z → s < carryBase → ltZ (toZ w64 (ofZ w64 z)) (pos 0) ≡ true
     → natAbs (z *ℤ pos (carryBase) +ℤ pos s) ≡ natAbs (toZ w64 (2 ^ 64 - 1 - ofZ w64 z)) * carryBase + (carryBase - s)
 size-negative (pos n) s f h e = absurd (omega (arith, sign-known (pos n) f true e))
 size-negative (negsuc k) s f h e =
-    omega (arith, size-below (suc k * carryBase) s (omega arith), complement-low (negsuc k) f e .1)
+    omega (arith, ap natAbs (neg-add (suc k * carryBase) s (omega arith)), complement-low (negsuc k) f e .1)
 
 pub size-positive : (z : ℤ) (s : ℕ) → SFits w64 z → ltZ (toZ w64 (ofZ w64 z)) (pos 0) ≡ false
     → natAbs (z *ℤ pos (carryBase) +ℤ pos s) ≡ natAbs (toZ w64 (ofZ w64 z)) * carryBase + s

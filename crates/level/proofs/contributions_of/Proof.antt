@@ -1,15 +1,12 @@
 -- `contributions_of` gives a row's contributions from its top down: the significand goes down the levels in units of 2^d.
 use mathlib.Core.Path.{_≡_, sym, _∙_}
 use mathlib.Core.Bool.{Bool}
-use Prim.Native.Nat.{ℕ, _*_, _^_, _≤_, _<_}
+use Prim.Native.Nat.{ℕ, _*_, _^_, _≤_}
 use native.Mathlib.Omega.{arith}
 use borrow.Author.Needs.{needs}
 use mir.Syntax.{w64}
-use mir.Val.{toZ, ofZ}
 use mir.ValLaws.{toZ-ofZ}
 use lib.Pow.{pow-pos}
-use lib.IntN.{ℤ}
-use lib.Signed.{mag}
 use lib.Ieee.Nearest.{closest}
 use Rattle.level.specs.Double.{signed, negative, significand}
 use Rattle.level.specs.Level.{top, contribution, below}
@@ -66,10 +63,6 @@ three b x d n r m l g o s p q ex ed eg ec el es eq =
     row : (k : ℕ) → scaled (2 ^ d) g x k ≡ below (contribution b) (top b) k
     row k = rw (ex, ed, eg) (sym (row-scaled b k))
 
--- an i64 is what its bits say
-back : (z : ℤ) → mag z < 2 ^ 63 → toZ w64 (ofZ w64 z) ≡ z
-back z h = toZ-ofZ w64 z (record { sfits = h })
-
 returns : tie.Need-returns
 returns c =
     let e = c .before .before .before .before .before .before in
@@ -82,9 +75,9 @@ returns c =
     let d = e .before .before .before .shift in
     let t = three (e .before .before .before .before .before .args .bits) (x .result) (d .result) (f .result .units) (f .result .rest) (l .result .middle) (l .result .low)
     (g .result) (f .result .«rounded_up») (s .result) (l .result .«rounded_up») (q .result) (x .ensures) (d .ensures) (g .ensures) (f .ensures) (l .ensures) (s .ensures) (q .ensures) in
-    let high = back _ (c .before .before .with-sign .ok) ∙ c .before .before .with-sign .ensures ∙ t .0 in
-    let middle = back _ (c .before .with-sign2 .ok) ∙ c .before .with-sign2 .ensures ∙ t .1 in
-    let low = back _ (c .with-sign3 .ok) ∙ c .with-sign3 .ensures ∙ t .2 in
+    let high = toZ-ofZ w64 _ (record { sfits = c .before .before .with-sign .ok }) ∙ c .before .before .with-sign .ensures ∙ t .0 in
+    let middle = toZ-ofZ w64 _ (record { sfits = c .before .with-sign2 .ok }) ∙ c .before .with-sign2 .ensures ∙ t .1 in
+    let low = toZ-ofZ w64 _ (record { sfits = c .with-sign3 .ok }) ∙ c .with-sign3 .ensures ∙ t .2 in
     λ i. record { top = e .before .before .before .before .top-level .ensures i; high = high i; middle = middle i; low = low i }
 
 pub contributions-of-spec : {M : Type 1} → statement M
