@@ -4,6 +4,7 @@ use Prim.Native.Nat.{ℕ, suc, _+_, _-_, _*_, _/_, _%_, _^_, _≤_, _<_}
 use native.Mathlib.Nat.{le-trans, le-of-eq, lt-of-lt-of-le, lt-of-not-le, not-le-of-lt, mul-assoc, add-zero, mul-le-mul-right, mul-mod-left, mod-lt, mod-eq-of-lt, le-add-right, mul-div-mul-right}
 use native.Mathlib.Omega.{arith}
 use mathlib.Core.List.{List, [], _∷_}
+use lib.Dec.{lit<}
 use lib.ListN.{getD}
 use mir.Syntax.{w64}
 use mir.Val.{Fits}
@@ -13,23 +14,22 @@ use Rattle.limbs.specs.Limbs.{valueOf, Reduced, ShiftedLeft}
 
 -- ---- by whole limbs, those above being 0
 
-pub limbs-one : (a b c d : ℕ) → d ≤ 0 → 0 + 2 ^ 40 * a + 2 ^ 80 * b + 2 ^ 120 * c ≡ (a + 2 ^ 40 * b + 2 ^ 80 * c + 2 ^ 120 * d) * 2 ^ 40
-limbs-one a b c d h =
+raised-same : (a b c d : ℕ) → d ≤ 0 → 0 + 2 ^ 40 * a + 2 ^ 80 * b + 2 ^ 120 * c ≡ (a + 2 ^ 40 * b + 2 ^ 80 * c + 2 ^ 120 * d) * 2 ^ 40
+raised-same a b c d h =
     let e : 0 + 2 ^ 40 * a + 2 ^ 80 * b + 2 ^ 120 * c ≡ (a + 2 ^ 40 * b + 2 ^ 80 * c) * 2 ^ 40 = omega arith in
     let f : a + 2 ^ 40 * b + 2 ^ 80 * c ≡ a + 2 ^ 40 * b + 2 ^ 80 * c + 2 ^ 120 * d = omega arith in
     e ∙ ap (λ (x : ℕ). x * 2 ^ 40) f
 
-pub limbs-two : (a b c d : ℕ) → d ≤ 0 → c ≤ 0 → 0 + 2 ^ 40 * 0 + 2 ^ 80 * a + 2 ^ 120 * b ≡ (a + 2 ^ 40 * b + 2 ^ 80 * c + 2 ^ 120 * d) * 2 ^ 80
-limbs-two a b c d h k =
-    let e : 0 + 2 ^ 40 * 0 + 2 ^ 80 * a + 2 ^ 120 * b ≡ (a + 2 ^ 40 * b) * 2 ^ 80 = omega arith in
-    let f : a + 2 ^ 40 * b ≡ a + 2 ^ 40 * b + 2 ^ 80 * c + 2 ^ 120 * d = omega arith in
-    e ∙ ap (λ (x : ℕ). x * 2 ^ 80) f
+-- one limb up
+abbrev pub limbUp : List ℕ → List ℕ
+limbUp a = 0 ∷ getD a 0 0 ∷ getD a 1 0 ∷ getD a 2 0 ∷ []
 
-pub limbs-three : (a b c d : ℕ) → d ≤ 0 → c ≤ 0 → b ≤ 0 → 0 + 2 ^ 40 * 0 + 2 ^ 80 * 0 + 2 ^ 120 * a ≡ (a + 2 ^ 40 * b + 2 ^ 80 * c + 2 ^ 120 * d) * 2 ^ 120
-limbs-three a b c d h k l =
-    let e : 0 + 2 ^ 40 * 0 + 2 ^ 80 * 0 + 2 ^ 120 * a ≡ a * 2 ^ 120 = omega arith in
-    let f : a ≡ a + 2 ^ 40 * b + 2 ^ 80 * c + 2 ^ 120 * d = omega arith in
-    e ∙ ap (λ (x : ℕ). x * 2 ^ 120) f
+pub limb-up : (a : List ℕ) → Reduced a → getD a 3 0 ≤ 0 → ShiftedLeft a (limbUp a) 40
+limb-up a g h =
+    record {
+      reduced = record { limb0 = lit< tt; limb1 = g .limb0; limb2 = g .limb1; limb3 = g .limb2 };
+      same = raised-same (getD a 0 0) (getD a 1 0) (getD a 2 0) (getD a 3 0) h;
+    }
 
 pub last-pos : (a b c d : ℕ) → 0 < a + 2 ^ 40 * b + 2 ^ 80 * c + 2 ^ 120 * d → d ≤ 0 → c ≤ 0 → b ≤ 0 → 0 < a
 last-pos a b c d p h k l = omega arith
