@@ -1,17 +1,12 @@
 -- Laws of little-endian bytes, for any width. The idea: a field is its first byte and 256 times the field after it, so most go by induction on the width.
-use Prim.Native.Nat.{ℕ, zero, suc, _+_, _-_, _*_, _/_, _%_, _^_, _<_, _≤_, zero-le}
-use mathlib.Core.Path.{_≡_, refl, sym, ap, subst, _∙_}
+use Prim.Native.Nat.{ℕ, zero, suc, _+_, _-_, _*_, _/_, _%_, _^_, _<_, _≤_}
+use mathlib.Core.Path.{_≡_, refl, sym, ap, _∙_}
 use mathlib.Core.List.{List, [], _∷_, _++_, append-assoc}
 use native.Mathlib.Nat.{pow-suc, add-suc, suc-add, zero-add, add-zero, le-of-eq, le-refl, one-le-pow}
 use native.Mathlib.Omega.{arith}
-use lib.Dec.{T, leb, lit<}
-use borrow.Author.Tests.{le-ltb, le-leb, leb-true}
-use mathlib.Core.Bool.{Bool, true, false}
-use lib.IntN.{ℤ, pos, negsuc, natAbs}
-use lib.Signed.{nonNeg, ltZ}
-use mir.Syntax.{w64}
-use mir.Val.{toZ, ofZ, SFits}
-use mir.ValLaws.{toZ-pos, toZ-ofZ}
+use lib.Dec.{leb, lit<}
+use borrow.Author.Tests.{le-leb, leb-true}
+use mathlib.Core.Bool.{true}
 use lib.ListN.{length, getD, set, take, drop, length-drop, take-append-drop}
 use lib.Seq.{sets, sets-eq, length-sets, take-at, drop-at, drop-cons, drop-set-lt, take-set-le, drop-drop, drop-append-le, take-append-le, drop-append-add, take-all, length-take-le, getD-set-other, set-comm, getD-drop}
 use Rattle.codec.specs.Bytes.{number, bytes, numberAt}
@@ -179,25 +174,3 @@ move-more s j e d h fits =
     let n : e - j ≡ suc (e - suc j) = omega arith in
     let p : suc j + d ≡ suc (j + d) = omega arith in
     rw (n, drop-cons s j 0 (omega arith), getD-sets s X (suc j + d) j 0 (omega arith), set-sets s X (suc j + d) (j + d) (getD s j 0) (omega arith), p)
-
--- ---- two's complement: the upper half of the bits are the negative numbers
-
-pub low-half : (n : ℕ) → n < 2 ^ 63 → T (nonNeg (toZ w64 n)) × (natAbs (toZ w64 n) ≡ n)
-low-half n h = rw (toZ-pos w64 n h) (tt, refl)
-
-abbrev Sign : Bool → ℤ → Type 0
-Sign true z = (2 ^ 63 ≤ ofZ w64 z) × (ofZ w64 z < 2 ^ 64)
-Sign false z = ofZ w64 z < 2 ^ 63
-
-sign-bits : (z : ℤ) → SFits w64 z → Sign (ltZ z (pos 0)) z
-sign-bits (pos n) f = rw (le-ltb n 0 zero-le) (f .sfits)
-sign-bits (negsuc n) f = omega arith
-
--- what a test of the sign says of the bits
-pub sign-known : (z : ℤ) → SFits w64 z → (b : Bool) → ltZ (toZ w64 (ofZ w64 z)) (pos 0) ≡ b → Sign b z
-sign-known z f b e = subst (λ (t : Bool). Sign t z) (rw (toZ-ofZ w64 z f) at e) (sign-bits z f)
-
--- the bits of a negative number, complemented, are in the lower half
-pub complement-low : (z : ℤ) → SFits w64 z → ltZ (toZ w64 (ofZ w64 z)) (pos 0) ≡ true
-    → T (nonNeg (toZ w64 (2 ^ 64 - 1 - ofZ w64 z))) × (natAbs (toZ w64 (2 ^ 64 - 1 - ofZ w64 z)) ≡ 2 ^ 64 - 1 - ofZ w64 z)
-complement-low z f e = let h = sign-known z f true e in low-half (2 ^ 64 - 1 - ofZ w64 z) (omega arith)

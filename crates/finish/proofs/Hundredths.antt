@@ -2,16 +2,17 @@
 -- that the significand has.
 use mathlib.Core.Path.{_≡_, sym, ap, ap₂, _∙_}
 use mathlib.Core.Bool.{Bool, true, false, cond}
-use Prim.Native.Nat.{ℕ, zero, suc, _+_, _-_, _*_, _/_, _%_, _^_, _≤_, _<_, compare, Ordering}
+use Prim.Native.Nat.{ℕ, _+_, _-_, _*_, _/_, _%_, _^_, _≤_, _<_, compare, Ordering}
 use native.Mathlib.Nat.{le-trans, mul-le-mul-right, le-div-iff-mul-le}
 use native.Mathlib.Omega.{arith}
 use borrow.Author.Tests.{le-ltb, lt-ltb}
 use lib.Dec.{lit<, lit≤}
 use lib.Pow.{pow-pos, pow-mono}
-use lib.IntN.{ℤ, pos, negℤ, _-ℤ_, +ℤ-idl}
+use lib.IntN.{ℤ, pos, _-ℤ_}
 use mir.Syntax.{w32}
-use mir.Val.{SFits, toZ, ofZ}
-use mir.ValLaws.{toZ-pos, toZ-ofZ}
+use mir.Val.{toZ, ofZ}
+use mir.ValLaws.{toZ-pos}
+use Rattle.integers.proofs.Width.{minus-back}
 use Rattle.refusal.specs.Outcome.{Outcome, accepted, refused}
 use Rattle.level.specs.Double.{signed}
 use Rattle.level.proofs.Near.{pow-sum}
@@ -67,27 +68,11 @@ figure-within s n h = rw (natAbs-signed s n, le-ltb 2147483647 n h)
 
 -- ---- a figure as an i32
 
-i32-lt : (n : ℕ) → n ≤ 2147483647 → n < 2 ^ 31
+pub i32-lt : (n : ℕ) → n ≤ 2147483647 → n < 2 ^ 31
 i32-lt n h = omega arith
 
-as-number : (n : ℕ) → n ≤ 2147483647 → toZ w32 n ≡ pos n
-as-number n h = toZ-pos w32 n (i32-lt n h)
-
-minus-number : (n : ℕ) → n ≤ 2147483647 → pos 0 -ℤ toZ w32 n ≡ negℤ (pos n)
-minus-number n h = ap (λ (z : ℤ). pos 0 -ℤ z) (as-number n h) ∙ +ℤ-idl (negℤ (pos n))
-
-neg-fits : (n : ℕ) → n ≤ 2147483647 → SFits w32 (negℤ (pos n))
-neg-fits zero h = record { sfits = lit< tt }
-neg-fits (suc n) h = record { sfits = omega arith }
-
-pub minus-fits : (n : ℕ) → n ≤ 2147483647 → SFits w32 (pos 0 -ℤ toZ w32 n)
-minus-fits n h = rw (minus-number n h) (neg-fits n h)
-
-minus-figure : (n : ℕ) → n ≤ 2147483647 → toZ w32 (ofZ w32 (pos 0 -ℤ toZ w32 n)) ≡ negℤ (pos n)
-minus-figure n h = toZ-ofZ w32 (pos 0 -ℤ toZ w32 n) (minus-fits n h) ∙ minus-number n h
-
 pub figure-plus : (s : Bool) (n : ℕ) → n ≤ 2147483647 → s ≡ false → accepted (toZ w32 n) ≡ answered (signed s n)
-figure-plus s n h e = ap accepted (as-number n h ∙ ap (λ (t : Bool). signed t n) (sym e)) ∙ figure-within s n h
+figure-plus s n h e = ap accepted (toZ-pos w32 n (i32-lt n h) ∙ ap (λ (t : Bool). signed t n) (sym e)) ∙ figure-within s n h
 
 pub figure-minus : (s : Bool) (n : ℕ) → n ≤ 2147483647 → s ≡ true → accepted (toZ w32 (ofZ w32 (pos 0 -ℤ toZ w32 n))) ≡ answered (signed s n)
-figure-minus s n h e = ap accepted (minus-figure n h ∙ ap (λ (t : Bool). signed t n) (sym e)) ∙ figure-within s n h
+figure-minus s n h e = ap accepted (minus-back w32 n (i32-lt n h) ∙ ap (λ (t : Bool). signed t n) (sym e)) ∙ figure-within s n h

@@ -13,7 +13,8 @@ use lib.Signed.{nonNeg}
 use mir.Syntax.{w64}
 use mir.Val.{toZ, ofZ}
 use Rattle.integers.proofs.Diff.{_⊝_, ints, byParts, byParts₃}
-use Rattle.integers.proofs.Laws.{natAbs-scale, back}
+use Rattle.integers.proofs.Laws.{natAbs-scale}
+use Rattle.integers.proofs.Width.{back}
 use Rattle.level.proofs.Signs.{natAbs-signed, signed-mul}
 use Rattle.level.proofs.Given.{unit-suc}
 use Rattle.level.specs.Double.{signed}
@@ -68,8 +69,8 @@ carry-fits c h = (nonneg c h, small c h)
 -- read off the bits of the sum
 pub carry-read : (c r : ℤ) → natAbs c < carryRaise → r ≡ toZ w64 (ofZ w64 c) +ℤ pos (carryRaise) → toZ w64 (ofZ w64 r) ≡ c +ℤ pos (carryRaise)
 carry-read c r h e =
-    let f : r ≡ c +ℤ pos (carryRaise) = e ∙ ap (λ (z : ℤ). z +ℤ pos (carryRaise)) (back c (omega arith)) in
-    ap (λ (z : ℤ). toZ w64 (ofZ w64 z)) f ∙ back (c +ℤ pos (carryRaise)) (lt-of-lt-of-le (carry-fits c h .1) (lit≤ tt))
+    let f : r ≡ c +ℤ pos (carryRaise) = e ∙ ap (λ (z : ℤ). z +ℤ pos (carryRaise)) (back w64 c (omega arith)) in
+    ap (λ (z : ℤ). toZ w64 (ofZ w64 z)) f ∙ back w64 (c +ℤ pos (carryRaise)) (lt-of-lt-of-le (carry-fits c h .1) (lit≤ tt))
 
 total-of : (n s : ℕ) → (n ⊝ carryRaise) *ℤ pos (carryBase) +ℤ pos s ≡ (s + carryBase * n) ⊝ totalRaise
 total-of n s = simp ints (omega arith)

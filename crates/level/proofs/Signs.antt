@@ -1,13 +1,11 @@
 -- Integers by sign and size.
 use mathlib.Core.Path.{_≡_, refl, _∙_}
 use mathlib.Core.Bool.{Bool, true, false, cond}
-use Prim.Native.Nat.{ℕ, zero, suc, _+_, _-_, _*_, _^_, _<_}
+use Prim.Native.Nat.{ℕ, zero, suc, _+_, _-_, _*_}
 use native.Mathlib.Nat.{add-zero, sub-zero}
 use native.Mathlib.Omega.{arith}
-use lib.Dec.{ltb, leb·suc-zero, lit<}
+use lib.Dec.{ltb, leb·suc-zero}
 use lib.IntN.{pos, negsuc, natAbs, subℕ, _-ℤ_, _*ℤ_}
-use mir.Syntax.{w64}
-use mir.Val.{SFits}
 use borrow.Author.Tests.{ltb-true, ltb-false}
 use Rattle.integers.proofs.Laws.{natAbs-neg, negℤ-*ℤ}
 use Rattle.level.specs.Double.{signed}
@@ -38,9 +36,3 @@ sub-signed x y = sub-is y ∙ by (ltb x y) refl
         let h = ltb-false x y e in
         let k : x - y + (y - x) ≡ x - y = omega arith in
         rw k
-
--- a size below 2^63 is in the range of an i64, with either sign
-pub signed-fits : (g : Bool) (n : ℕ) → n < 2 ^ 63 → SFits w64 (signed g n)
-signed-fits true zero h = record { sfits = lit< tt }
-signed-fits true (suc n) h = record { sfits = omega arith }
-signed-fits false n h = record { sfits = h }

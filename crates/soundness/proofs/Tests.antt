@@ -14,21 +14,21 @@ use mir.Syntax.{w64}
 use mir.Val.{toZ, ofZ, SFits}
 use Rattle.integers.proofs.Laws.{neg-add}
 use Rattle.level.specs.Carry.{carryBase}
-use Rattle.codec.proofs.Laws.{sign-known, complement-low, low-half}
+use Rattle.integers.proofs.Width.{below-zero, from-zero}
 use Rattle.record.specs.declared.Record.{Record}
 use Rattle.record.specs.Keys.{rising}
 use Rattle.record.specs.Sound.{soundRecord, soundRecords}
 
 pub size-negative : (z : ℤ) (s : ℕ) → SFits w64 z → s < carryBase → ltZ (toZ w64 (ofZ w64 z)) (pos 0) ≡ true
     → natAbs (z *ℤ pos (carryBase) +ℤ pos s) ≡ natAbs (toZ w64 (2 ^ 64 - 1 - ofZ w64 z)) * carryBase + (carryBase - s)
-size-negative (pos n) s f h e = absurd (omega (arith, sign-known (pos n) f true e))
+size-negative (pos n) s f h e = let b = below-zero w64 (pos n) f e in absurd (omega (arith, b .most, b .bits-are))
 size-negative (negsuc k) s f h e =
-    omega (arith, ap natAbs (neg-add (suc k * carryBase) s (omega arith)), complement-low (negsuc k) f e .1)
+    omega (arith, ap natAbs (neg-add (suc k * carryBase) s (omega arith)), ap natAbs (below-zero w64 (negsuc k) f e .complement))
 
 pub size-positive : (z : ℤ) (s : ℕ) → SFits w64 z → ltZ (toZ w64 (ofZ w64 z)) (pos 0) ≡ false
     → natAbs (z *ℤ pos (carryBase) +ℤ pos s) ≡ natAbs (toZ w64 (ofZ w64 z)) * carryBase + s
-size-positive (pos n) s f e = omega (arith, low-half n (f .sfits) .1)
-size-positive (negsuc k) s f e = absurd (omega (arith, sign-known (negsuc k) f false e))
+size-positive (pos n) s f e = omega (arith, ap natAbs (from-zero w64 (pos n) f e .same))
+size-positive (negsuc k) s f e = let b = from-zero w64 (negsuc k) f e in absurd (omega (arith, b .most, b .bits-are))
 
 pub zero-bits : (z : ℤ) → SFits w64 z → eqb (ofZ w64 z) 0 ≡ eqb (natAbs z) 0
 zero-bits (pos n) f = refl

@@ -1,4 +1,6 @@
-use Rattle.finish.proofs.Hundredths.{figure-beyond, minus-fits, figure-minus, figure-plus}
+use Rattle.finish.proofs.Hundredths.{figure-beyond, i32-lt, figure-minus, figure-plus}
+use mir.Syntax.{w32}
+use Rattle.integers.proofs.Width.{minus-fits}
 use borrow.Author.Needs.{needs}
 use Rattle.finish.proofs.figure_of_size.Statement.{statement}
 use Rattle.finish.proofs.figure_of_size.Tie as tie
@@ -7,7 +9,7 @@ returns : tie.Need-returns
 returns c = figure-beyond (c .before .args .negative) (c .before .args .n) (c .if1 .taken)
 
 sub-t6 : tie.Need-sub-t6
-sub-t6 c = minus-fits (c .before .before .args .n) (c .before .if1 .left)
+sub-t6 c = let n = c .before .before .args .n in minus-fits w32 n (i32-lt n (c .before .if1 .left))
 
 returns-2 : tie.Need-returns-2
 returns-2 c = figure-minus (c .before .before .args .negative) (c .before .before .args .n) (c .before .if1 .left) (c .if2 .taken)

@@ -2,13 +2,14 @@ use native.Mathlib.Omega.{arith}
 use mathlib.Core.Path.{refl}
 use lib.Dec.{lit≤}
 use native.Mathlib.Nat.{lt-of-lt-of-le}
-use Rattle.integers.proofs.Laws.{back}
+use mir.Syntax.{w64}
+use Rattle.integers.proofs.Width.{back}
 use Rattle.finish.proofs.Whole.{carry-fits, carry-read}
 use Rattle.finish.proofs.raised_carry.Statement.{statement}
 use Rattle.finish.proofs.raised_carry.Tie as tie
 
 plus-requires : tie.Need-plus-requires
-plus-requires c κs = rw (back (c .args .c) (omega (arith, c .pre))) (omega arith)
+plus-requires c κs = rw (back w64 (c .args .c) (omega (arith, c .pre))) (omega arith)
 
 cast-result : tie.Need-cast-result
 cast-result c =

@@ -4,7 +4,9 @@ use native.Mathlib.Omega.{arith}
 use mathlib.Core.List.{[], _∷_}
 use lib.IntN.{natAbs}
 use Rattle.numerals.specs.Steps.{Continued}
-use Rattle.numerals.proofs.Signs.{Negative, negative, Positive, positive}
+use mir.Syntax.{w32}
+use Rattle.integers.proofs.Width.{BelowZero, FromZero, below-zero, from-zero}
+use Rattle.numerals.proofs.Signs.{below-text, from-text}
 use Rattle.numerals.proofs.Texts.{then, longer}
 use borrow.Author.Needs.{needs}
 use Rattle.numerals.proofs.print_integer.Statement.{statement}
@@ -15,11 +17,11 @@ module _ (c : tie.Then1) where
   abbrev start : tie.Start
   start = c .before .before
 
-  negative-here : Negative (start .args .z)
-  negative-here = negative (start .args .z) (start .fits .z) (c .if1 .taken)
+  negative-here : BelowZero w32 (start .args .z)
+  negative-here = below-zero w32 (start .args .z) (start .fits .z) (c .if1 .taken)
 
-positive-here : (c : tie.Else1) → Positive (c .before .before .args .z)
-positive-here c = positive (c .before .before .args .z) (c .before .before .fits .z) (c .if1 .left)
+positive-here : (c : tie.Else1) → FromZero w32 (c .before .before .args .z)
+positive-here c = from-zero w32 (c .before .before .args .z) (c .before .before .fits .z) (c .if1 .left)
 
 cast-print-decimal : tie.Need-cast-print-decimal
 cast-print-decimal c = let h = negative-here (c .before .before .before .before .before) in rw (h .complement) (tt, omega arith)
@@ -34,7 +36,7 @@ returns c =
     let h = negative-here (p .before .before) in
     let e : natAbs (a .z) - 1 + 1 ≡ natAbs (a .z) = omega (arith, h .least) in
     let sign : Continued (a .text .now) (a .at) (0x2D ∷ []) 1 (p .print-byte .last .0) (p .print-byte .result) = p .print-byte .ensures in
-    rw (h .text) (then sign (rw (h .complement, e) at (c .before .before .print-decimal .ensures)))
+    rw (below-text (a .z) h) (then sign (rw (h .complement, e) at (c .before .before .print-decimal .ensures)))
 
 cast-print-decimal-2 : tie.Need-cast-print-decimal-2
 cast-print-decimal-2 c = let h = positive-here (c .before) in rw (h .same) (tt, omega arith)
@@ -42,7 +44,7 @@ cast-print-decimal-2 c = let h = positive-here (c .before) in rw (h .same) (tt, 
 returns-2 : tie.Need-returns-2
 returns-2 c =
     let h = positive-here (c .before .before .before .before) in
-    rw (h .text) (longer (rw (h .same) at (c .before .before .print-decimal2 .ensures)) (omega arith))
+    rw (from-text _ h) (longer (rw (h .same) at (c .before .before .print-decimal2 .ensures)) (omega arith))
 
 pub print-integer-spec : {M : Type 1} → statement M
 print-integer-spec =

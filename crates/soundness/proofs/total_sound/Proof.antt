@@ -1,11 +1,10 @@
 use mathlib.Core.Path.{refl, _∙_}
-use mathlib.Core.Bool.{false}
 use native.Mathlib.Omega.{arith}
 use borrow.Author.Tests.{lt-ltb, le-ltb}
 use mir.Syntax.{w64}
-use mir.Val.{ofZ, SFits}
+use mir.Val.{SFits}
 use Rattle.level.specs.Carry.{carryBase}
-use Rattle.codec.proofs.Laws.{complement-low, low-half, sign-known}
+use Rattle.integers.proofs.Width.{below-zero, from-zero}
 use Rattle.record.specs.Sound.{soundTotal}
 use Rattle.soundness.proofs.Tests.{size-negative, size-positive}
 use borrow.Author.Needs.{needs}
@@ -17,8 +16,8 @@ in-range c = search needs
 
 cast-at-most : tie.Need-cast-at-most
 cast-at-most c =
-    let l = complement-low (c .before .before .before .args .x .carry) (in-range (c .before .before .before)) (c .if2 .taken) in
-    (l .0, omega (arith, l .1))
+    let h = below-zero w64 (c .before .before .before .args .x .carry) (in-range (c .before .before .before)) (c .if2 .taken) in
+    rw (h .complement) (tt, omega arith)
 
 returns : tie.Need-returns
 unfolding soundTotal
@@ -30,10 +29,8 @@ returns c =
 
 cast-at-most-2 : tie.Need-cast-at-most-2
 cast-at-most-2 c =
-    let x = c .before .before .before .args .x in
-    let h = sign-known (x .carry) (in-range (c .before .before .before)) false (c .if2 .left) in
-    let l = low-half (ofZ w64 (x .carry)) h in
-    (l .0, omega (arith, l .1))
+    let h = from-zero w64 (c .before .before .before .args .x .carry) (in-range (c .before .before .before)) (c .if2 .left) in
+    rw (h .same) (tt, omega arith)
 
 returns-2 : tie.Need-returns-2
 unfolding soundTotal
