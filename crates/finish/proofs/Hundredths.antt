@@ -18,7 +18,7 @@ use Rattle.level.specs.Double.{signed}
 use Rattle.level.proofs.Near.{pow-sum}
 use Rattle.level.proofs.Signs.{natAbs-signed}
 use Rattle.limbs.specs.Nearest.{rounded, nearestBy}
-use Rattle.limbs.proofs.Nearest.{order-lt, order-scale, nearest-at, nearest-ge, nearest-same}
+use Rattle.limbs.proofs.Nearest.{order-lt, order-scale, nearest-at, nearest-floor, nearest-same}
 use Rattle.finish.specs.Figure.{beyond}
 
 -- ---- the rounded size
@@ -50,29 +50,29 @@ module _ (tie : ℕ → Bool) where
 
   -- a size of 2^52 or more, in units of 2^-1074, is beyond
   pub far : (n : ℕ) → 2 ^ 1126 ≤ n → 2147483647 < nearestBy tie (n * 100) (2 ^ 1074)
-  far n h = le-trans (le-div-iff-mul-le (pow-pos 1074) .1 (le-trans (lit≤ tt) (mul-le-mul-right 100 h))) (nearest-ge tie (n * 100) (2 ^ 1074))
+  far n h = le-trans (le-div-iff-mul-le (pow-pos 1074) .1 (le-trans (lit≤ tt) (mul-le-mul-right 100 h))) (nearest-floor tie (n * 100) (2 ^ 1074))
 
 -- ---- in range or beyond
 
 -- the answer for a figure
-abbrev answered : ℤ → Outcome ℤ
-answered z = cond (beyond z) (refused 15) (accepted z)
+abbrev rangedFigure : ℤ → Outcome ℤ
+rangedFigure z = cond (beyond z) (refused 15) (accepted z)
 
-pub figure-beyond : (s : Bool) (n : ℕ) → 2147483647 < n → refused 15 ≡ answered (signed s n)
+pub figure-beyond : (s : Bool) (n : ℕ) → 2147483647 < n → refused 15 ≡ rangedFigure (signed s n)
 unfolding beyond
 figure-beyond s n h = rw (natAbs-signed s n, lt-ltb 2147483647 n h)
 
-figure-within : (s : Bool) (n : ℕ) → n ≤ 2147483647 → accepted (signed s n) ≡ answered (signed s n)
+figure-in-range : (s : Bool) (n : ℕ) → n ≤ 2147483647 → accepted (signed s n) ≡ rangedFigure (signed s n)
 unfolding beyond
-figure-within s n h = rw (natAbs-signed s n, le-ltb 2147483647 n h)
+figure-in-range s n h = rw (natAbs-signed s n, le-ltb 2147483647 n h)
 
 -- ---- a figure as an i32
 
 pub i32-lt : (n : ℕ) → n ≤ 2147483647 → n < 2 ^ 31
 i32-lt n h = omega arith
 
-pub figure-plus : (s : Bool) (n : ℕ) → n ≤ 2147483647 → s ≡ false → accepted (toZ w32 n) ≡ answered (signed s n)
-figure-plus s n h e = ap accepted (toZ-pos w32 n (i32-lt n h) ∙ ap (λ (t : Bool). signed t n) (sym e)) ∙ figure-within s n h
+pub figure-plus : (s : Bool) (n : ℕ) → n ≤ 2147483647 → s ≡ false → accepted (toZ w32 n) ≡ rangedFigure (signed s n)
+figure-plus s n h e = ap accepted (toZ-pos w32 n (i32-lt n h) ∙ ap (λ (t : Bool). signed t n) (sym e)) ∙ figure-in-range s n h
 
-pub figure-minus : (s : Bool) (n : ℕ) → n ≤ 2147483647 → s ≡ true → accepted (toZ w32 (ofZ w32 (pos 0 -ℤ toZ w32 n))) ≡ answered (signed s n)
-figure-minus s n h e = ap accepted (minus-back w32 n (i32-lt n h) ∙ ap (λ (t : Bool). signed t n) (sym e)) ∙ figure-within s n h
+pub figure-minus : (s : Bool) (n : ℕ) → n ≤ 2147483647 → s ≡ true → accepted (toZ w32 (ofZ w32 (pos 0 -ℤ toZ w32 n))) ≡ rangedFigure (signed s n)
+figure-minus s n h e = ap accepted (minus-back w32 n (i32-lt n h) ∙ ap (λ (t : Bool). signed t n) (sym e)) ∙ figure-in-range s n h

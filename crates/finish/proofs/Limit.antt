@@ -32,11 +32,11 @@ significand-at : (n k : ℕ) → droppedDigits n ≡ k → significandOf n ≡ c
 significand-at n k e = sym (closest-odd n (2 ^ droppedDigits n)) ∙ ap (λ (j : ℕ). closest n (2 ^ j)) e
 
 pub limit-infinite : (n : ℕ) → limit ≤ n → infinite ≤ packed n
-limit-infinite n h = ⊎-elim (λ e. at (sym e)) (λ g. past (significand-ge n) g) (eq-or-lt-of-le (size-at-limit n h))
+limit-infinite n h = ⊎-elim (λ e. at (sym e)) (λ g. larger-infinite (significand-ge n) g) (eq-or-lt-of-le (size-at-limit n h))
   where
-    past : (droppedDigits n ≡ 0) ⊎ (2 ^ 52 ≤ significandOf n) → 2045 < droppedDigits n → infinite ≤ packed n
-    past (inl z) g = absurd (lt-irrefl 0 (omega arith))
-    past (inr l) g = omega arith
+    larger-infinite : (droppedDigits n ≡ 0) ⊎ (2 ^ 52 ≤ significandOf n) → 2045 < droppedDigits n → infinite ≤ packed n
+    larger-infinite (inl z) g = absurd (lt-irrefl 0 (omega arith))
+    larger-infinite (inr l) g = omega arith
 
     at : droppedDigits n ≡ 2045 → infinite ≤ packed n
     at e =

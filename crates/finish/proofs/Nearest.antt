@@ -62,8 +62,8 @@ nearest-best n u x h =
 -- ---- among all m × 2^j with m of at most 53 digits
 
 -- a number of fewer digits than n keeps is farther away than 2^52 of the units that n is rounded to
-fewer : (n m j : ℕ) → m < 2 ^ 53 → j < droppedDigits n → absDiff n (significandOf n * 2 ^ droppedDigits n) < absDiff n (m * 2 ^ j)
-fewer n m j h l =
+fewer-zeros : (n m j : ℕ) → m < 2 ^ 53 → j < droppedDigits n → absDiff n (significandOf n * 2 ^ droppedDigits n) < absDiff n (m * 2 ^ j)
+fewer-zeros n m j h l =
     let d = droppedDigits n in
     let w : 2 ^ 52 * 2 ^ d ≤ n = le-div-iff-mul-le (pow-pos d) .0 (reaches n (omega arith)) in
     let v : m * 2 ^ j < 2 ^ 53 * 2 ^ j = mul-lt-mul-of-pos-right h (pow-pos j) in
@@ -85,13 +85,13 @@ module _ (n m j : ℕ) (l : droppedDigits n ≤ j) where
 
 digits-near : (n m j : ℕ) → m < 2 ^ 53 → absDiff n (significandOf n * 2 ^ droppedDigits n) ≤ absDiff n (m * 2 ^ j)
 digits-near n m j h =
-    ⊎-elim (λ l. le-trans (more n m j l .0) (le-of-eq (ap (absDiff n) (same-unit n m j l)))) (λ l. let g = fewer n m j h l in omega arith) (le-or-lt (droppedDigits n) j)
+    ⊎-elim (λ l. le-trans (more n m j l .0) (le-of-eq (ap (absDiff n) (same-unit n m j l)))) (λ l. let g = fewer-zeros n m j h l in omega arith) (le-or-lt (droppedDigits n) j)
 
 digits-even : (n m j : ℕ) → m < 2 ^ 53 → (m * 2 ^ j ≡ significandOf n * 2 ^ droppedDigits n → ⊥) → absDiff n (significandOf n * 2 ^ droppedDigits n) ≡ absDiff n (m * 2 ^ j) → significandOf n % 2 ≡ 0
 digits-even n m j h d e =
     ⊎-elim
     (λ l. more n m j l .1 (λ g. d (sym (same-unit n m j l) ∙ ap (λ (x : ℕ). x * 2 ^ droppedDigits n) g)) (e ∙ ap (absDiff n) (sym (same-unit n m j l))))
-    (λ l. absurd (farther (fewer n m j h l)))
+    (λ l. absurd (farther (fewer-zeros n m j h l)))
     (le-or-lt (droppedDigits n) j)
   where
     farther : absDiff n (significandOf n * 2 ^ droppedDigits n) < absDiff n (m * 2 ^ j) → ⊥
@@ -132,8 +132,8 @@ module _ (s : Bool) (n : ℕ) where
       farther n a = omega arith
 
   -- a value of the other sign is as near only if it is 0, which has both signs
-  nothing : (t : Bool) → signed t 0 ≡ signed s 0
-  nothing t = signed-zero t ∙ sym (signed-zero s)
+  signed-zero-same : (t : Bool) → signed t 0 ≡ signed s 0
+  signed-zero-same t = signed-zero t ∙ sym (signed-zero s)
 
   even-signed : (t : Bool) (m j : ℕ) → m < 2 ^ 53 → (signed t (m * 2 ^ j) ≡ signed s size-of → ⊥) → natAbs (signed s n -ℤ signed s size-of) ≡ natAbs (signed s n -ℤ signed t (m * 2 ^ j)) → significandOf n % 2 ≡ 0
   even-signed t m j h d e =
@@ -151,7 +151,7 @@ module _ (s : Bool) (n : ℕ) where
           let b = digits-near n 0 0 (pow-pos 53) in
           let z : m * 2 ^ j ≡ 0 = omega arith in
           let w : absDiff n size-of ≡ absDiff n (0 * 2 ^ 0) = omega arith in
-          digits-even n 0 0 (pow-pos 53) (λ k. d (ap (signed t) z ∙ nothing t ∙ ap (signed s) k)) w
+          digits-even n 0 0 (pow-pos 53) (λ k. d (ap (signed t) z ∙ signed-zero-same t ∙ ap (signed s) k)) w
 
 -- ---- the bits of the sum
 
@@ -179,16 +179,16 @@ module _ (s : Bool) (n : ℕ) (h : n < limit) where
   abbrev bits : ℕ
   bits = toBits binary64 x
 
-  back : ofBits binary64 bits ≡ x
-  back = ofBits-toBits binary64 x (round-fits binary64 s n (2 ^ 1074))
+  float-back : ofBits binary64 bits ≡ x
+  float-back = ofBits-toBits binary64 x (round-fits binary64 s n (2 ^ 1074))
 
   bits-finite : finiteBits bits ≡ true
-  bits-finite = sym (finite-binary64 bits) ∙ ap Scale.finite back ∙ is-true (Scale.finite x) (limit-number s n h)
+  bits-finite = sym (finite-binary64 bits) ∙ ap Scale.finite float-back ∙ is-true (Scale.finite x) (limit-number s n h)
 
   bits-value : (negative bits ≡ s) × (magnitude bits ≡ significandOf n * 2 ^ droppedDigits n)
   bits-value =
       unique x s (negative bits) (significandOf n * 2 ^ droppedDigits n) (magnitude bits) (limit-value s n h)
-      (subst (λ (y : Float). HasValue y (negative bits) (magnitude bits) (2 ^ 1074)) back (value-binary64 bits (toBits-lt binary64 x (round-fits binary64 s n (2 ^ 1074))) bits-finite))
+      (subst (λ (y : Float). HasValue y (negative bits) (magnitude bits) (2 ^ 1074)) float-back (value-binary64 bits (toBits-lt binary64 x (round-fits binary64 s n (2 ^ 1074))) bits-finite))
 
   bits-even : significandOf n % 2 ≡ 0 → significand bits % 2 ≡ 0
   bits-even e = significand-even bits (ap (λ (b : ℕ). b % 2) (packed-bits s n (limit-finite n h)) ∙ packed-even s (droppedDigits n) (significandOf n) e)

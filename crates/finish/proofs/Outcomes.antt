@@ -29,7 +29,7 @@ use Rattle.finish.specs.declared.Lookup.{Lookup}
 use Rattle.finish.specs.declared.Lookup.the-variants.{Found, Missing, Unsound}
 use Rattle.finish.specs.declared.SectionSum.{SectionSum}
 use Rattle.finish.specs.declared.SectionSum.the-variants.{Finite, Absent, TooLarge, NotSound}
-use Rattle.finish.proofs.Sums.{nearest-finite}
+use Rattle.finish.proofs.Sums.{double-finite}
 
 -- two constructors are never equal
 pub never : {A : Type 0} → _≡_ {A = ℕ} 0 1 → A
@@ -38,7 +38,7 @@ never e = absurd (lt-irrefl 0 (omega arith))
 -- ---- by whether the kept value is too large; where it is not, its sum is finite
 
 by-size : (k : ℤ) (P : Bool → Type 0) → P true → (T (finite (nearestDouble k)) → P false) → P (tooLarge k)
-by-size k P large small = go (tooLarge k) (nearest-finite k)
+by-size k P large small = go (tooLarge k) (double-finite k)
   where
     go : (b : Bool) → (b ≡ false → T (finite (nearestDouble k))) → P b
     go true h = large
@@ -71,19 +71,19 @@ pub sum-given : (s : Section) (x : Float) → sumOf (some s) ≡ accepted x → 
 sum-given s x e =
     let q = accepted-value (sumGrounds s) (sumFor s) e in
     let l = accepted-not 14 (sumGrounds s) (sumFor s) e in
-    record { is = q; small = l; finite-sum = rw (← q) (nearest-finite (kept s) l) }
+    record { is = q; small = l; finite-sum = rw (← q) (double-finite (kept s) l) }
 
 pub record LineGiven (s : Section) (l : FinishedLine) : Type 0 where
   pub is : lineFor s ≡ l
   pub small : tooLarge (kept s) ≡ false
-  pub within : beyond (figureFor s) ≡ false
+  pub not-beyond : beyond (figureFor s) ≡ false
   pub finite-sum : T (finite (l .sum))
 
 pub line-given : (s : Section) (l : FinishedLine) → lineOf (some s) ≡ accepted l → LineGiven s l
 line-given s l e =
     let q = accepted-value (figureGrounds s) (lineFor s) e in
     let small = accepted-not 14 (figureGrounds s) (lineFor s) e in
-    record { is = q; small = small; within = accepted-not 15 (figureGrounds s) (lineFor s) e; finite-sum = rw (← q) (nearest-finite (kept s) small) }
+    record { is = q; small = small; not-beyond = accepted-not 15 (figureGrounds s) (lineFor s) e; finite-sum = rw (← q) (double-finite (kept s) small) }
 
 -- ---- on a table
 
@@ -145,9 +145,9 @@ bits-back k = ofBits-toBits binary64 (nearestDouble k) (round-fits binary64 (not
 -- ---- the line of a figure
 
 -- a figure that is given, and one that is refused, and what a line makes of it
-pub given : {A : Type 0} (f : ℤ → A) (b : Bool) (x z : ℤ) → accepted z ≡ cond b (refused 15) (accepted x) → accepted (f z) ≡ cond b (refused 15) (accepted (f x))
-given f true x z e = never (cc)
-given f false x z e = let q : z ≡ x = cc in ap (λ (y : ℤ). accepted (f y)) q
+pub figure-passed : {A : Type 0} (f : ℤ → A) (b : Bool) (x z : ℤ) → accepted z ≡ cond b (refused 15) (accepted x) → accepted (f z) ≡ cond b (refused 15) (accepted (f x))
+figure-passed f true x z e = never (cc)
+figure-passed f false x z e = let q : z ≡ x = cc in ap (λ (y : ℤ). accepted (f y)) q
 
 pub withheld : {A : Type 0} (a : A) (b : Bool) (x : ℤ) (n : ℕ) → refused n ≡ cond b (refused 15) (accepted x) → refused n ≡ cond b (refused 15) (accepted a)
 withheld a true x n e = let q : n ≡ 15 = cc in ap refused q
@@ -174,5 +174,5 @@ module _ (a : Lookup) (s : List ℕ) (g k : ℕ) (l : LookedUp a s g k) where
   found-sound r e = says e .2
 
   -- the answer in any case of the lookup
-  pub finished : {A : Type 0} (f : Option Section → Outcome A) (b : Lookup) → a ≡ b → outcomeOf f b ≡ finishing f s g k
-  finished f b e = by-lookup f b s g k (says e)
+  pub finishing-by : {A : Type 0} (f : Option Section → Outcome A) (b : Lookup) → a ≡ b → outcomeOf f b ≡ finishing f s g k
+  finishing-by f b e = by-lookup f b s g k (says e)

@@ -38,14 +38,14 @@ negative-number n h = no-nan (n + 2 ^ 63) (omega arith)
 pub bits-large : (n : ℕ) (s : Bool) → infinite ≤ n → TooLarge ≡ sumOfBits n s
 bits-large n s h = rw (le-leb (infinite) n h)
 
-bits-finite : (n : ℕ) (s : Bool) → n < infinite → Finite (ofBits binary64 (signBit s + n)) ≡ sumOfBits n s
-bits-finite n s h = rw (lt-leb (infinite) n h)
+sum-of-finite : (n : ℕ) (s : Bool) → n < infinite → Finite (ofBits binary64 (signBit s + n)) ≡ sumOfBits n s
+sum-of-finite n s h = rw (lt-leb (infinite) n h)
 
 pub bits-negative : (n : ℕ) (s : Bool) → n < infinite → s ≡ true → Finite (ofBits binary64 (n + 2 ^ 63)) ≡ sumOfBits n s
-bits-negative n s h e = ap (λ (x : ℕ). Finite (ofBits binary64 x)) (add-comm n (2 ^ 63) ∙ ap (λ (t : Bool). signBit t + n) (sym e)) ∙ bits-finite n s h
+bits-negative n s h e = ap (λ (x : ℕ). Finite (ofBits binary64 x)) (add-comm n (2 ^ 63) ∙ ap (λ (t : Bool). signBit t + n) (sym e)) ∙ sum-of-finite n s h
 
 pub bits-positive : (n : ℕ) (s : Bool) → n < infinite → s ≡ false → Finite (ofBits binary64 n) ≡ sumOfBits n s
-bits-positive n s h e = ap (λ (x : ℕ). Finite (ofBits binary64 x)) (sym (zero-add n) ∙ ap (λ (t : Bool). signBit t + n) (sym e)) ∙ bits-finite n s h
+bits-positive n s h e = ap (λ (x : ℕ). Finite (ofBits binary64 x)) (sym (zero-add n) ∙ ap (λ (t : Bool). signBit t + n) (sym e)) ∙ sum-of-finite n s h
 
 -- ---- the answer of a kept value
 
@@ -59,20 +59,20 @@ sum-of-kept k = ⊎-elim (λ h. large h) (λ h. small h) (le-or-lt limit (natAbs
     small : natAbs k < limit → sumOfBits (packed (natAbs k)) (not (nonNeg k)) ≡ keptSum k
     small h =
         let f = limit-finite (natAbs k) h in
-        sym (bits-finite (packed (natAbs k)) (not (nonNeg k)) f) ∙ ap Finite (packed-value (not (nonNeg k)) (natAbs k) f) ∙ rw (lt-leb limit (natAbs k) h)
+        sym (sum-of-finite (packed (natAbs k)) (not (nonNeg k)) f) ∙ ap Finite (packed-value (not (nonNeg k)) (natAbs k) f) ∙ rw (lt-leb limit (natAbs k) h)
 
-zero-bits : sumOfBits (packed 0) false ≡ Finite (ofBits binary64 0)
+bits-of-zero : sumOfBits (packed 0) false ≡ Finite (ofBits binary64 0)
 unfolding size nearestBy
-zero-bits = refl
+bits-of-zero = refl
 
 -- a kept value of 0 gives +0
 pub sum-of-zero : (k : ℤ) → natAbs k ≡ 0 → not (nonNeg k) ≡ false → Finite (ofBits binary64 0) ≡ keptSum k
-sum-of-zero k e f = sym (ap (λ (n : ℕ). sumOfBits (packed n) (not (nonNeg k))) e ∙ ap (λ (s : Bool). sumOfBits (packed 0) s) f ∙ zero-bits) ∙ sum-of-kept k
+sum-of-zero k e f = sym (ap (λ (n : ℕ). sumOfBits (packed n) (not (nonNeg k))) e ∙ ap (λ (s : Bool). sumOfBits (packed 0) s) f ∙ bits-of-zero) ∙ sum-of-kept k
 
 -- the sum of a kept value that is not too large is a finite float
-pub nearest-finite : (k : ℤ) → tooLarge k ≡ false → T (finite (nearestDouble k))
+pub double-finite : (k : ℤ) → tooLarge k ≡ false → T (finite (nearestDouble k))
 unfolding tooLarge nearestDouble
-nearest-finite k e = limit-number (not (nonNeg k)) (natAbs k) (leb-false limit (natAbs k) e)
+double-finite k e = limit-number (not (nonNeg k)) (natAbs k) (leb-false limit (natAbs k) e)
 
 -- ---- too large is where rounding gives an infinity
 

@@ -14,7 +14,7 @@ use mir.Syntax.{w64}
 use mir.Val.{toZ, ofZ}
 use Rattle.integers.proofs.Diff.{_⊝_, ints, byParts, byParts₃}
 use Rattle.integers.proofs.Laws.{natAbs-scale}
-use Rattle.integers.proofs.Width.{back}
+use Rattle.integers.proofs.Width.{bits-back}
 use Rattle.level.proofs.Signs.{natAbs-signed, signed-mul}
 use Rattle.level.proofs.Given.{unit-suc}
 use Rattle.level.specs.Double.{signed}
@@ -56,8 +56,8 @@ kept-up t x y z h k =
 carry-is : (c : ℤ) → natAbs c < carryRaise → c ≡ raisedCarry c ⊝ carryRaise
 carry-is = byParts _ (λ a b. simp ints (omega arith))
 
-pub carry-fits : (c : ℤ) → natAbs c < carryRaise → T (nonNeg (c +ℤ pos (carryRaise))) × (raisedCarry c < 2 ^ 23)
-carry-fits c h = (nonneg c h, small c h)
+pub raised-carry-fits : (c : ℤ) → natAbs c < carryRaise → T (nonNeg (c +ℤ pos (carryRaise))) × (raisedCarry c < 2 ^ 23)
+raised-carry-fits c h = (nonneg c h, small c h)
   where
     nonneg : (c : ℤ) → natAbs c < carryRaise → T (nonNeg (c +ℤ pos (carryRaise)))
     nonneg (pos n) h = tt
@@ -69,8 +69,8 @@ carry-fits c h = (nonneg c h, small c h)
 -- read off the bits of the sum
 pub carry-read : (c r : ℤ) → natAbs c < carryRaise → r ≡ toZ w64 (ofZ w64 c) +ℤ pos (carryRaise) → toZ w64 (ofZ w64 r) ≡ c +ℤ pos (carryRaise)
 carry-read c r h e =
-    let f : r ≡ c +ℤ pos (carryRaise) = e ∙ ap (λ (z : ℤ). z +ℤ pos (carryRaise)) (back w64 c (omega arith)) in
-    ap (λ (z : ℤ). toZ w64 (ofZ w64 z)) f ∙ back w64 (c +ℤ pos (carryRaise)) (lt-of-lt-of-le (carry-fits c h .1) (lit≤ tt))
+    let f : r ≡ c +ℤ pos (carryRaise) = e ∙ ap (λ (z : ℤ). z +ℤ pos (carryRaise)) (bits-back w64 c (omega arith)) in
+    ap (λ (z : ℤ). toZ w64 (ofZ w64 z)) f ∙ bits-back w64 (c +ℤ pos (carryRaise)) (lt-of-lt-of-le (raised-carry-fits c h .1) (lit≤ tt))
 
 total-of : (n s : ℕ) → (n ⊝ carryRaise) *ℤ pos (carryBase) +ℤ pos s ≡ (s + carryBase * n) ⊝ totalRaise
 total-of n s = simp ints (omega arith)

@@ -18,8 +18,8 @@ module _ (w : Width) where
   natAbs-fits (negsuc n) h = record { sfits = omega arith }
 
   -- a number comes back from its bits
-  pub back : (z : ℤ) → natAbs z < 2 ^ hbits w → toZ w (ofZ w z) ≡ z
-  back z h = toZ-ofZ w z (natAbs-fits z h)
+  pub bits-back : (z : ℤ) → natAbs z < 2 ^ hbits w → toZ w (ofZ w z) ≡ z
+  bits-back z h = toZ-ofZ w z (natAbs-fits z h)
 
   -- a size taken from 0
   module _ (n : ℕ) (h : n < 2 ^ hbits w) where
@@ -48,20 +48,20 @@ pub record FromZero (w : Width) (z : ℤ) : Type 0 where
   pub same : toZ w (ofZ w z) ≡ pos (natAbs z)
 
 module _ (w : Width) where
-  below-is : (z : ℤ) → SFits w z → ltZ z (pos 0) ≡ true → BelowZero w z
-  below-is (pos n) f e = let d : _≡_ {A = ℕ} 0 1 = cc (le-ltb n 0 zero-le) in absurd (omega arith)
-  below-is (negsuc n) f e =
+  below-zero-is : (z : ℤ) → SFits w z → ltZ z (pos 0) ≡ true → BelowZero w z
+  below-zero-is (pos n) f e = let d : _≡_ {A = ℕ} 0 1 = cc (le-ltb n 0 zero-le) in absurd (omega arith)
+  below-zero-is (negsuc n) f e =
       let p : n < 2 ^ hbits w = f .sfits in
       let q : 2 ^ bits w - 1 - ofZ w (negsuc n) ≡ n = omega (arith, half-full w p) in
       let o : suc n - 1 ≡ n = omega arith in
       record { is = rw o; least = omega arith; most = p; bits-are = refl; complement = rw (q, o) (toZ-pos w n p) }
 
-  from-is : (z : ℤ) → SFits w z → ltZ z (pos 0) ≡ false → FromZero w z
-  from-is (pos n) f e = record { is = refl; most = f .sfits; bits-are = refl; same = toZ-ofZ w (pos n) f }
-  from-is (negsuc n) f e = let d : _≡_ {A = ℕ} 0 1 = cc in absurd (omega arith)
+  from-zero-is : (z : ℤ) → SFits w z → ltZ z (pos 0) ≡ false → FromZero w z
+  from-zero-is (pos n) f e = record { is = refl; most = f .sfits; bits-are = refl; same = toZ-ofZ w (pos n) f }
+  from-zero-is (negsuc n) f e = let d : _≡_ {A = ℕ} 0 1 = cc in absurd (omega arith)
 
   pub below-zero : (z : ℤ) → SFits w z → ltZ (toZ w (ofZ w z)) (pos 0) ≡ true → BelowZero w z
-  below-zero z f e = below-is z f (rw (toZ-ofZ w z f) at e)
+  below-zero z f e = below-zero-is z f (rw (toZ-ofZ w z f) at e)
 
   pub from-zero : (z : ℤ) → SFits w z → ltZ (toZ w (ofZ w z)) (pos 0) ≡ false → FromZero w z
-  from-zero z f e = from-is z f (rw (toZ-ofZ w z f) at e)
+  from-zero z f e = from-zero-is z f (rw (toZ-ofZ w z f) at e)

@@ -46,8 +46,8 @@ fields-value s (suc x) t h = go (eqb (suc x) 2047) h
     go false k = subst (λ (a : ℕ). HasValue (odd 53 s (2 ^ 52 + t) x 1074) s a (2 ^ 1074)) (sym same) (odd-sign 53 s (2 ^ 52 + t) x 1074)
 
 -- the sign, read as a test of the highest bit
-sign-bit : (b : ℕ) → b < 2 ^ 64 → negative b ≡ leb (2 ^ 63) b
-sign-bit b h =
+negative-upper : (b : ℕ) → b < 2 ^ 64 → negative b ≡ leb (2 ^ 63) b
+negative-upper b h =
     elim (decLt b (2 ^ 63)) [
       | yes l ↦ ne-eqb (b / 2 ^ 63) 1 (λ e. omega arith) ∙ sym (lt-leb (2 ^ 63) b l)
       | no k ↦ eq-eqb (b / 2 ^ 63) 1 (omega arith) ∙ sym (le-leb (2 ^ 63) b (omega arith))
@@ -62,6 +62,6 @@ finite-binary64 b = fields-finite (leb (2 ^ 63) b) (b % 2 ^ 63 / 2 ^ 52) (b % 2 
 pub value-binary64 : (b : ℕ) → b < 2 ^ 64 → finiteBits b ≡ true → HasValue (ofBits binary64 b) (negative b) (magnitude b) (2 ^ 1074)
 unfolding ofBits
 value-binary64 b h f =
-    rw (sign-bit b h)
+    rw (negative-upper b h)
     (subst (λ (x : ℕ). HasValue (ofFields binary64 (leb (2 ^ 63) b) (b % 2 ^ 63 / 2 ^ 52) (b % 2 ^ 52)) (leb (2 ^ 63) b) (cond (eqb x 0) (b % 2 ^ 52) (2 ^ 52 + b % 2 ^ 52) * 2 ^ (x - 1)) (2 ^ 1074))
     (Pow.field b 11 52) (fields-value (leb (2 ^ 63) b) (b % 2 ^ 63 / 2 ^ 52) (b % 2 ^ 52) (ap (λ (x : ℕ). not (eqb x 2047)) (Pow.field b 11 52) ∙ f)))

@@ -38,14 +38,14 @@ module _ (n u x v : ℕ) (u-pos : 0 < u) (v-pos : 0 < v) (same : n * v ≡ x * u
   same-units : closest n u ≡ closest x v
   same-units = closest-same n u x v u-pos v-pos same
 
-  whole : closest n u * u * v ≡ closest x v * v * u
-  whole = rw same-units (omega arith)
+  same-whole : closest n u * u * v ≡ closest x v * v * u
+  same-whole = rw same-units (omega arith)
 
   same-rest : restOf n u * v ≡ restOf x v * u
-  same-rest = sym (absDiff-scale n (closest n u * u) v) ∙ ap₂ absDiff same whole ∙ absDiff-scale x (closest x v * v) u
+  same-rest = sym (absDiff-scale n (closest n u * u) v) ∙ ap₂ absDiff same same-whole ∙ absDiff-scale x (closest x v * v) u
 
   same-direction : roundedUp n u ≡ roundedUp x v
-  same-direction = sym (ltb-scale n (closest n u * u) v v-pos) ∙ ap₂ ltb same whole ∙ ltb-scale x (closest x v * v) u u-pos
+  same-direction = sym (ltb-scale n (closest n u * u) v v-pos) ∙ ap₂ ltb same same-whole ∙ ltb-scale x (closest x v * v) u u-pos
 
 -- x / u with both sides multiplied
 module _ (x u s : ℕ) (u-pos : 0 < u) (s-pos : 0 < s) where

@@ -89,16 +89,16 @@ after-whole t z zero e q h = (q, h)
 after-whole zero z (suc n) e q h = left-whole z 0 e q h
 after-whole (suc s) z (suc n) e q h = let w = left-whole z (suc s) e q h in after-whole s (left z (suc s)) n e (w .0) (w .1)
 
-nothing : (z : ℤ) (q w : ℕ) → 0 < w → natAbs z ≡ q * w → natAbs z * 2 ≤ w → z ≡ pos 0
-nothing (pos n) zero w h e l = ap pos (omega arith)
-nothing (pos n) (suc q) w h e l = absurd (omega arith)
-nothing (negsuc n) zero w h e l = absurd (omega arith)
-nothing (negsuc n) (suc q) w h e l = absurd (omega arith)
+half-multiple-zero : (z : ℤ) (q w : ℕ) → 0 < w → natAbs z ≡ q * w → natAbs z * 2 ≤ w → z ≡ pos 0
+half-multiple-zero (pos n) zero w h e l = ap pos (omega arith)
+half-multiple-zero (pos n) (suc q) w h e l = absurd (omega arith)
+half-multiple-zero (negsuc n) zero w h e l = absurd (omega arith)
+half-multiple-zero (negsuc n) (suc q) w h e l = absurd (omega arith)
 
 pub after-exact : (t : ℕ) (z : ℤ) (n e q : ℕ) → natAbs z ≡ q * 2 ^ e → 40 * (t - n) ≤ e → leftAfter t z (suc n) ≡ pos 0
 after-exact t z n e q h l =
     let w = after-whole t z (suc n) e q h in
-    nothing (leftAfter t z (suc n)) (w .0) (2 ^ e) (pow-pos e) (w .1) (le-trans (after-half t z n) (pow-mono l))
+    half-multiple-zero (leftAfter t z (suc n)) (w .0) (2 ^ e) (pow-pos e) (w .1) (le-trans (after-half t z n) (pow-mono l))
 
 -- at its own top a row is kept whole by three levels
 pub levelSum-whole : (b : ℕ) → levelSum (contribution b) (top b) 3 ≡ value b

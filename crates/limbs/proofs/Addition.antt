@@ -58,8 +58,8 @@ up-same a b c d p q off h e = omega arith
 pub three-lt : (a b c : ℕ) → a < 2 ^ 40 → b < 2 ^ 40 → c < 2 ^ 40 → a + 2 ^ 40 * b + 2 ^ 80 * c < 2 ^ 120
 three-lt a b c h k l = omega arith
 
-below : (x d p q off : ℕ) → x < 2 ^ 120 → d < off → x + 2 ^ 120 * d + q ≡ p + 2 ^ 120 * off → p < q
-below x d p q off h k e = omega arith
+less-than-bias : (x d p q off : ℕ) → x < 2 ^ 120 → d < off → x + 2 ^ 120 * d + q ≡ p + 2 ^ 120 * off → p < q
+less-than-bias x d p q off h k e = omega arith
 
 -- a part of a number has no larger last limb
 last-le : (x y d p q : ℕ) → y < 2 ^ 120 → x + 2 ^ 120 * d + q ≡ y + 2 ^ 120 * p → d ≤ p
@@ -81,5 +81,5 @@ module _ (a b r : List ℕ) (g : DifferenceWithBias a b r) where
 
   pub difference-less : getD r 3 0 < 2 ^ 40 → valueOf a < valueOf b
   difference-less h =
-      below (getD r 0 0 + 2 ^ 40 * getD r 1 0 + 2 ^ 80 * getD r 2 0) (getD r 3 0) (valueOf a) (valueOf b) (2 ^ 40)
+      less-than-bias (getD r 0 0 + 2 ^ 40 * getD r 1 0 + 2 ^ 80 * getD r 2 0) (getD r 3 0) (valueOf a) (valueOf b) (2 ^ 40)
       (three-lt (getD r 0 0) (getD r 1 0) (getD r 2 0) (g .limb0) (g .limb1) (g .limb2)) h (g .same)

@@ -12,7 +12,7 @@ use Rattle.limbs.specs.Limbs.{valueOf, Reduced}
 use Rattle.limbs.specs.Nearest.{isOdd, rounded}
 use Rattle.limbs.specs.Packed.{leadingDigits}
 use Rattle.limbs.proofs.Addition.{three-lt}
-use Rattle.limbs.proofs.Nearest.{order-same, nearest-at, nearest-le}
+use Rattle.limbs.proofs.Nearest.{order-same, nearest-at, nearest-ceiling}
 
 -- the 53 leading digits
 abbrev pub lead : List ℕ → ℕ
@@ -22,8 +22,8 @@ lead a = getD a 3 0 * 8192 + getD a 2 0 / 2 ^ 27
 abbrev others : List ℕ → ℕ
 others a = getD a 0 0 + 2 ^ 40 * getD a 1 0 + 2 ^ 80 * (getD a 2 0 % 2 ^ 27)
 
-cut : (a b c d : ℕ) → a + 2 ^ 40 * b + 2 ^ 80 * c + 2 ^ 120 * d ≡ (d * 8192 + c / 2 ^ 27) * 2 ^ 107 + (a + 2 ^ 40 * b + 2 ^ 80 * (c % 2 ^ 27))
-cut a b c d = omega arith
+leading-parts : (a b c d : ℕ) → a + 2 ^ 40 * b + 2 ^ 80 * c + 2 ^ 120 * d ≡ (d * 8192 + c / 2 ^ 27) * 2 ^ 107 + (a + 2 ^ 40 * b + 2 ^ 80 * (c % 2 ^ 27))
+leading-parts a b c d = omega arith
 
 two-lt : (a b : ℕ) → a < 2 ^ 40 → b < 2 ^ 40 → a + 2 ^ 40 * b < 2 ^ 80
 two-lt a b h k = omega arith
@@ -53,7 +53,7 @@ module _ (a : List ℕ) (n : Reduced a) where
   others-lt = rest-lt (getD a 0 0 + 2 ^ 40 * getD a 1 0) (getD a 2 0) low-lt
 
   lead-same : valueOf a ≡ lead a * 2 ^ 107 + others a
-  lead-same = cut (getD a 0 0) (getD a 1 0) (getD a 2 0) (getD a 3 0)
+  lead-same = leading-parts (getD a 0 0) (getD a 1 0) (getD a 2 0) (getD a 3 0)
 
   remainder : others a ≡ valueOf a % 2 ^ 107
   remainder = sym (ap (λ (x : ℕ). x % 2 ^ 107) lead-same ∙ digits-mod (lead a) others-lt)
@@ -85,4 +85,4 @@ value-ge a k h =
     (le-trans (mul-le-mul-left (2 ^ 120) h) (le-add-left (2 ^ 120 * getD a 3 0) (getD a 0 0 + 2 ^ 40 * getD a 1 0 + 2 ^ 80 * getD a 2 0)))
 
 pub leading-le : (a : List ℕ) → Reduced a → leadingDigits a ≤ 2 ^ 53
-leading-le a n = le-trans (nearest-le isOdd (valueOf a) (2 ^ 107)) (shr-lt 53 107 (value-lt a 40 n (n .limb3)))
+leading-le a n = le-trans (nearest-ceiling isOdd (valueOf a) (2 ^ 107)) (shr-lt 53 107 (value-lt a 40 n (n .limb3)))

@@ -87,13 +87,13 @@ module _ (t : Bool) (q r h : ℕ) where
 -- ---- the nearest number
 
 module _ (tie : ℕ → Bool) where
-  pub nearest-ge : (n d : ℕ) → n / d ≤ nearestBy tie n d
+  pub nearest-floor : (n d : ℕ) → n / d ≤ nearestBy tie n d
   unfolding nearestBy
-  nearest-ge n d = rounded-ge (tie (n / d)) (n / d) (compare (n % d * 2) d)
+  nearest-floor n d = rounded-ge (tie (n / d)) (n / d) (compare (n % d * 2) d)
 
-  pub nearest-le : (n d : ℕ) → nearestBy tie n d ≤ suc (n / d)
+  pub nearest-ceiling : (n d : ℕ) → nearestBy tie n d ≤ suc (n / d)
   unfolding nearestBy
-  nearest-le n d = rounded-le (tie (n / d)) (n / d) (compare (n % d * 2) d)
+  nearest-ceiling n d = rounded-le (tie (n / d)) (n / d) (compare (n % d * 2) d)
 
   -- from any quotient and remainder
   pub nearest-at : (n d q r : ℕ) → n ≡ q * d + r → r < d → nearestBy tie n d ≡ rounded (tie q) q (compare (r * 2) d)

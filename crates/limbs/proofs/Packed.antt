@@ -17,7 +17,7 @@ use lib.Ieee.Bits.{ofBits-toBits, cond-no}
 use lib.Ieee.Nearest.{closest, closest-same}
 use Rattle.limbs.specs.Nearest.{isOdd}
 use Rattle.limbs.specs.Packed.{droppedDigits, significandOf, packed, infinite, signBit}
-use Rattle.limbs.proofs.Nearest.{le-or-lt, nearest-ge, nearest-le, closest-odd}
+use Rattle.limbs.proofs.Nearest.{le-or-lt, nearest-floor, nearest-ceiling, closest-odd}
 
 -- ---- how many digits a number has
 
@@ -41,32 +41,32 @@ value-bits (fin t m e) s a h =
 
 -- ---- q times 2^k units, q having its 53 digits or k being 0
 
-few : (z : ℕ) → z ≤ 53 → z - 53 ≡ 0
-few z h = omega arith
+none-dropped : (z : ℕ) → z ≤ 53 → z - 53 ≡ 0
+none-dropped z h = omega arith
 
-less : (z k : ℕ) → z ≡ suc (52 + k) → z - 53 ≡ k
-less z k e = omega arith
+dropped-is : (z k : ℕ) → z ≡ suc (52 + k) → z - 53 ≡ k
+dropped-is z k e = omega arith
 
-less-one : (z k : ℕ) → z ≡ suc (53 + k) → z - 53 ≡ suc k
-less-one z k e = omega arith
+dropped-next : (z k : ℕ) → z ≡ suc (53 + k) → z - 53 ≡ suc k
+dropped-next z k e = omega arith
 
-join : (k q : ℕ) → q ≡ 2 ^ 53 → suc k * 2 ^ 52 + 2 ^ 52 ≡ k * 2 ^ 52 + q
-join k q e = omega arith
+carry-joined : (k q : ℕ) → q ≡ 2 ^ 53 → suc k * 2 ^ 52 + 2 ^ 52 ≡ k * 2 ^ 52 + q
+carry-joined k q e = omega arith
 
 -- the 53 digits that are kept of q * 2^k, and how many are not
 abbrev kept-of : ℕ → ℕ → ℕ
 kept-of a d = d * 2 ^ 52 + a / 2 ^ d
 
-plain : (q : ℕ) → q < 2 ^ 53 → kept-of q (size q - 53) ≡ q
-plain q h = ap (λ (d : ℕ). kept-of q d) (few (size q) (size-le q 53 h)) ∙ zero-add (q / 1) ∙ div-one q
+kept-plain : (q : ℕ) → q < 2 ^ 53 → kept-of q (size q - 53) ≡ q
+kept-plain q h = ap (λ (d : ℕ). kept-of q d) (none-dropped (size q) (size-le q 53 h)) ∙ zero-add (q / 1) ∙ div-one q
 
 size-full : (q k : ℕ) → 2 ^ 52 ≤ q → q < 2 ^ 53 → size (q * 2 ^ k) ≡ suc (52 + k)
 size-full q k l h =
     size-is (q * 2 ^ k) (52 + k) (le-trans (le-of-eq (pow-add 2 52 k)) (mul-le-mul-right (2 ^ k) l)) (subst (λ (x : ℕ). q * 2 ^ k < 2 ^ x) (suc-add 52 k) (shl-lt 53 k h))
 
-full : (q k : ℕ) → 2 ^ 52 ≤ q → q < 2 ^ 53 → kept-of (q * 2 ^ k) (size (q * 2 ^ k) - 53) ≡ k * 2 ^ 52 + q
-full q k l h =
-    ap (λ (d : ℕ). kept-of (q * 2 ^ k) d) (less (size (q * 2 ^ k)) k (size-full q k l h)) ∙ ap (λ (x : ℕ). k * 2 ^ 52 + x) (mul-div-cancel q (pow-pos k))
+kept-full : (q k : ℕ) → 2 ^ 52 ≤ q → q < 2 ^ 53 → kept-of (q * 2 ^ k) (size (q * 2 ^ k) - 53) ≡ k * 2 ^ 52 + q
+kept-full q k l h =
+    ap (λ (d : ℕ). kept-of (q * 2 ^ k) d) (dropped-is (size (q * 2 ^ k)) k (size-full q k l h)) ∙ ap (λ (x : ℕ). k * 2 ^ 52 + x) (mul-div-cancel q (pow-pos k))
 
 size-next : (k : ℕ) → size (2 ^ 53 * 2 ^ k) ≡ suc (53 + k)
 size-next k = ap size (sym (pow-add 2 53 k)) ∙ size-is (2 ^ (53 + k)) (53 + k) (le-refl (2 ^ (53 + k))) (pow-lt (lt-suc-self (53 + k)))
@@ -76,28 +76,28 @@ halved k =
     let e : 53 + k ≡ 52 + suc k = omega arith in
     ap (λ (x : ℕ). x / 2 ^ suc k) (sym (pow-add 2 53 k) ∙ ap (λ (x : ℕ). 2 ^ x) e ∙ pow-add 2 52 (suc k)) ∙ mul-div-cancel (2 ^ 52) (pow-pos (suc k))
 
-next : (q k : ℕ) → q ≡ 2 ^ 53 → kept-of (q * 2 ^ k) (size (q * 2 ^ k) - 53) ≡ k * 2 ^ 52 + q
-next q k e =
+kept-next : (q k : ℕ) → q ≡ 2 ^ 53 → kept-of (q * 2 ^ k) (size (q * 2 ^ k) - 53) ≡ k * 2 ^ 52 + q
+kept-next q k e =
     ap (λ (x : ℕ). kept-of (x * 2 ^ k) (size (x * 2 ^ k) - 53)) e
-    ∙ ap (λ (d : ℕ). kept-of (2 ^ 53 * 2 ^ k) d) (less-one (size (2 ^ 53 * 2 ^ k)) k (size-next k))
+    ∙ ap (λ (d : ℕ). kept-of (2 ^ 53 * 2 ^ k) d) (dropped-next (size (2 ^ 53 * 2 ^ k)) k (size-next k))
     ∙ ap (λ (x : ℕ). suc k * 2 ^ 52 + x) (halved k)
-    ∙ join k q e
+    ∙ carry-joined k q e
 
 kept-is : (q k : ℕ) → q ≤ 2 ^ 53 → (k ≡ 0) ⊎ (2 ^ 52 ≤ q) → kept-of (q * 2 ^ k) (size (q * 2 ^ k) - 53) ≡ k * 2 ^ 52 + q
-kept-is q k h (inr l) = ⊎-elim (λ e. next q k e) (λ g. full q k l g) (eq-or-lt-of-le h)
-kept-is q k h (inl z) = ⊎-elim (λ e. next q k e) (λ g. low g) (eq-or-lt-of-le h)
+kept-is q k h (inr l) = ⊎-elim (λ e. kept-next q k e) (λ g. kept-full q k l g) (eq-or-lt-of-le h)
+kept-is q k h (inl z) = ⊎-elim (λ e. kept-next q k e) (λ g. no-digit-dropped g) (eq-or-lt-of-le h)
   where
-    low : q < 2 ^ 53 → kept-of (q * 2 ^ k) (size (q * 2 ^ k) - 53) ≡ k * 2 ^ 52 + q
-    low g =
+    no-digit-dropped : q < 2 ^ 53 → kept-of (q * 2 ^ k) (size (q * 2 ^ k) - 53) ≡ k * 2 ^ 52 + q
+    no-digit-dropped g =
         ap (λ (j : ℕ). kept-of (q * 2 ^ j) (size (q * 2 ^ j) - 53)) z
         ∙ ap (λ (x : ℕ). kept-of x (size x - 53)) (mul-one q)
-        ∙ plain q g
+        ∙ kept-plain q g
         ∙ sym (ap (λ (j : ℕ). j * 2 ^ 52 + q) z ∙ zero-add q)
 
 -- ---- what rounding n units keeps
 
 pub significand-le : (n : ℕ) → significandOf n ≤ 2 ^ 53
-significand-le n = le-trans (nearest-le isOdd n (2 ^ droppedDigits n)) (kept-lt 53 n)
+significand-le n = le-trans (nearest-ceiling isOdd n (2 ^ droppedDigits n)) (kept-lt 53 n)
 
 pub reaches : (n : ℕ) → 53 < size n → 2 ^ 52 ≤ n / 2 ^ droppedDigits n
 reaches n h =
@@ -105,7 +105,7 @@ reaches n h =
     le-div-iff-mul-le (pow-pos (droppedDigits n)) .1 (le-trans (le-of-eq (sym (pow-add 2 52 (droppedDigits n)))) (size-reaches n (52 + droppedDigits n) l))
 
 pub significand-ge : (n : ℕ) → (droppedDigits n ≡ 0) ⊎ (2 ^ 52 ≤ significandOf n)
-significand-ge n = ⊎-elim (λ h. inl (few (size n) h)) (λ h. inr (le-trans (reaches n h) (nearest-ge isOdd n (2 ^ droppedDigits n)))) (le-or-lt (size n) 53)
+significand-ge n = ⊎-elim (λ h. inl (none-dropped (size n) h)) (λ h. inr (le-trans (reaches n h) (nearest-floor isOdd n (2 ^ droppedDigits n)))) (le-or-lt (size n) 53)
 
 round-units : (s : Bool) (n : ℕ) → round binary64 s n (2 ^ 1074) ≡ units binary64 s (significandOf n) (droppedDigits n)
 round-units s n =

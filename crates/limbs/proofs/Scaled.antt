@@ -20,17 +20,17 @@ use Rattle.limbs.proofs.Leading.{value-lt, value-ge}
 
 -- with n = 2^a * w / 2^b, and w of 160 digits
 module _ (n w a b : ℕ) (e : n * 2 ^ b ≡ w * 2 ^ a) (lo : 2 ^ 159 ≤ w) (hi : w < 2 ^ 160) where
-  above : 2 ^ (159 + a) ≤ n * 2 ^ b
-  above = le-trans (le-of-eq (pow-add 2 159 a)) (le-trans (mul-le-mul-right (2 ^ a) lo) (le-of-eq (sym e)))
+  scaled-ge : 2 ^ (159 + a) ≤ n * 2 ^ b
+  scaled-ge = le-trans (le-of-eq (pow-add 2 159 a)) (le-trans (mul-le-mul-right (2 ^ a) lo) (le-of-eq (sym e)))
 
-  below : n * 2 ^ b < 2 ^ (160 + a)
-  below = lt-of-le-of-lt (le-of-eq e) (shl-lt 160 a hi)
+  scaled-lt : n * 2 ^ b < 2 ^ (160 + a)
+  scaled-lt = lt-of-le-of-lt (le-of-eq e) (shl-lt 160 a hi)
 
   size-low : 159 + a < size n + b
-  size-low = lt-of-not-le (λ (g : size n + b ≤ 159 + a). not-le-of-lt (lt-of-lt-of-le (shl-lt (size n) b (size-lt n)) (pow-mono g)) above)
+  size-low = lt-of-not-le (λ (g : size n + b ≤ 159 + a). not-le-of-lt (lt-of-lt-of-le (shl-lt (size n) b (size-lt n)) (pow-mono g)) scaled-ge)
 
   n-pos : 0 < n
-  n-pos = first-pos n (2 ^ b) (lt-of-lt-of-le (pow-pos (159 + a)) above)
+  n-pos = first-pos n (2 ^ b) (lt-of-lt-of-le (pow-pos (159 + a)) scaled-ge)
 
   pub size-pos : 0 < size n
   size-pos = lt-of-not-le (λ (g : size n ≤ 0). not-le-of-lt (lt-of-lt-of-le (size-lt n) (pow-mono {j = 0} g)) n-pos)
@@ -39,7 +39,7 @@ module _ (n w a b : ℕ) (e : n * 2 ^ b ≡ w * 2 ^ a) (lo : 2 ^ 159 ≤ w) (hi 
   size-high =
       let p : size n - 1 < size n = omega (arith, size-pos) in
       let r : 2 ^ (size n - 1 + b) ≤ n * 2 ^ b = le-trans (le-of-eq (pow-add 2 (size n - 1) b)) (mul-le-mul-right (2 ^ b) (size-reaches n (size n - 1) p)) in
-      let s : size n - 1 + b < 160 + a = lt-of-not-le (λ (g : 160 + a ≤ size n - 1 + b). not-le-of-lt below (le-trans (pow-mono g) r)) in
+      let s : size n - 1 + b < 160 + a = lt-of-not-le (λ (g : 160 + a ≤ size n - 1 + b). not-le-of-lt scaled-lt (le-trans (pow-mono g) r)) in
       omega (arith, size-pos)
 
   pub scaled-size : size n + b ≡ 160 + a
@@ -83,12 +83,12 @@ module _ (n w a b : ℕ) (e : n * 2 ^ b ≡ w * 2 ^ a) (lo : 2 ^ 159 ≤ w) (hi 
 pub field-lt : (t by : ℕ) → t ≤ mostScale → 27 + t - by < 2 ^ 12
 field-lt t by h = omega arith
 
-pub sum-fits : (t by q : ℕ) → t ≤ mostScale → q ≤ 2 ^ 53 → Fits w64 ((27 + t - by) * 2 ^ 52 + q)
-sum-fits t by q h k = omega arith
+pub field-fits : (t by q : ℕ) → t ≤ mostScale → q ≤ 2 ^ 53 → Fits w64 ((27 + t - by) * 2 ^ 52 + q)
+field-fits t by q h k = omega arith
 
 module _ (a r : List ℕ) (t by : ℕ) (n : ShiftedLeft a r by) (g : 2 ^ 39 ≤ getD r 3 0) (e : unitsOf a t * 2 ^ 80 ≡ valueOf a * 2 ^ t) where
-  scaled : unitsOf a t * 2 ^ (80 + by) ≡ valueOf r * 2 ^ t
-  scaled =
+  scaled-units : unitsOf a t * 2 ^ (80 + by) ≡ valueOf r * 2 ^ t
+  scaled-units =
       ap (λ (x : ℕ). unitsOf a t * x) (pow-add 2 80 by)
       ∙ sym (mul-assoc (unitsOf a t) (2 ^ 80) (2 ^ by))
       ∙ ap (λ (x : ℕ). x * 2 ^ by) e
@@ -102,16 +102,16 @@ module _ (a r : List ℕ) (t by : ℕ) (n : ShiftedLeft a r by) (g : 2 ^ 39 ≤ 
   hi = value-lt r 40 (n .reduced) (n .reduced .limb3)
 
   pub shift-lt : 27 + t < by → by - (27 + t) < 64
-  shift-lt h = omega (arith, scaled-size (unitsOf a t) (valueOf r) t (80 + by) scaled lo hi, size-pos (unitsOf a t) (valueOf r) t (80 + by) scaled lo hi)
+  shift-lt h = omega (arith, scaled-size (unitsOf a t) (valueOf r) t (80 + by) scaled-units lo hi, size-pos (unitsOf a t) (valueOf r) t (80 + by) scaled-units lo hi)
 
   pub assembled : by ≤ 27 + t → (27 + t - by) * 2 ^ 52 + leadingDigits r ≡ packed (unitsOf a t)
   assembled h =
       let g : 80 + by ≤ 107 + t = omega arith in
       let k : 27 + t - by ≡ 107 + t - (80 + by) = omega arith in
-      ap (λ (x : ℕ). x * 2 ^ 52 + leadingDigits r) k ∙ sym (scaled-normal (unitsOf a t) (valueOf r) t (80 + by) scaled lo hi g)
+      ap (λ (x : ℕ). x * 2 ^ 52 + leadingDigits r) k ∙ sym (scaled-normal (unitsOf a t) (valueOf r) t (80 + by) scaled-units lo hi g)
 
-  pub shifted : 27 + t < by → leadingDigits r / 2 ^ (by - (27 + t)) ≡ packed (unitsOf a t)
-  shifted h =
+  pub assembled-small : 27 + t < by → leadingDigits r / 2 ^ (by - (27 + t)) ≡ packed (unitsOf a t)
+  assembled-small h =
       let g : 107 + t < 80 + by = omega arith in
       let k : by - (27 + t) ≡ 80 + by - (107 + t) = omega arith in
-      ap (λ (x : ℕ). leadingDigits r / 2 ^ x) k ∙ sym (scaled-small (unitsOf a t) (valueOf r) t (80 + by) scaled lo hi g)
+      ap (λ (x : ℕ). leadingDigits r / 2 ^ x) k ∙ sym (scaled-small (unitsOf a t) (valueOf r) t (80 + by) scaled-units lo hi g)

@@ -40,11 +40,11 @@ module _ (x d : ℕ) (h : d < 40) where
   whole : 2 ^ (40 - d) * 2 ^ d ≡ 2 ^ 40
   whole = let e : 40 - d + d ≡ 40 = omega arith in sym (pow-add 2 (40 - d) d) ∙ ap (λ (k : ℕ). 2 ^ k) e
 
-  pub leaves : x / 2 ^ (40 - d) ≡ x * 2 ^ d / 2 ^ 40
-  leaves = sym (mul-div-mul-right x (2 ^ (40 - d)) (pow-pos d)) ∙ ap (λ (y : ℕ). x * 2 ^ d / y) whole
+  pub carried-out : x / 2 ^ (40 - d) ≡ x * 2 ^ d / 2 ^ 40
+  carried-out = sym (mul-div-mul-right x (2 ^ (40 - d)) (pow-pos d)) ∙ ap (λ (y : ℕ). x * 2 ^ d / y) whole
 
-  leaves-lt : x < 2 ^ 40 → x * 2 ^ d / 2 ^ 40 < 2 ^ d
-  leaves-lt k = let e : 40 + d ≡ d + 40 = omega arith in shr-lt d 40 (lt-of-lt-of-le (shl-lt 40 d k) (le-of-eq (ap (λ (y : ℕ). 2 ^ y) e)))
+  carried-out-lt : x < 2 ^ 40 → x * 2 ^ d / 2 ^ 40 < 2 ^ d
+  carried-out-lt k = let e : 40 + d ≡ d + 40 = omega arith in shr-lt d 40 (lt-of-lt-of-le (shl-lt 40 d k) (le-of-eq (ap (λ (y : ℕ). 2 ^ y) e)))
 
   -- what stays ends in d zeros, and leaves room for them
   stays-lt : x * 2 ^ d % 2 ^ 40 + 2 ^ d ≤ 2 ^ 40
@@ -59,23 +59,23 @@ module _ (x d : ℕ) (h : d < 40) where
       omega arith
 
 -- a shift of 64 bits drops no digit that stays
-pub stays : (y : ℕ) → y % 2 ^ 64 % 2 ^ 40 ≡ y % 2 ^ 40
-stays y = omega arith
+pub last-same : (y : ℕ) → y % 2 ^ 64 % 2 ^ 40 ≡ y % 2 ^ 40
+last-same y = omega arith
 
 pub limb-fits : (x y d : ℕ) → y < 2 ^ 40 → Fits w64 (x % 2 ^ 40 + y / 2 ^ (40 - d))
 limb-fits x y d k = let l = shr-le y (40 - d) in omega arith
 
 -- a limb with what comes from the one below it has 40 digits
 limb-lt : (x y d : ℕ) → d < 40 → y < 2 ^ 40 → x * 2 ^ d % 2 ^ 40 + y * 2 ^ d / 2 ^ 40 < 2 ^ 40
-limb-lt x y d h k = let a = stays-lt x d h in let b = leaves-lt y d h k in omega arith
+limb-lt x y d h k = let a = stays-lt x d h in let b = carried-out-lt y d h k in omega arith
 
 -- all four, the first with nothing from below
-join : (p q r s m n o i j k : ℕ) → m + 2 ^ 40 * i ≡ p → n + 2 ^ 40 * j ≡ q → o + 2 ^ 40 * k ≡ r
+limbs-joined : (p q r s m n o i j k : ℕ) → m + 2 ^ 40 * i ≡ p → n + 2 ^ 40 * j ≡ q → o + 2 ^ 40 * k ≡ r
     → m + 0 + 2 ^ 40 * (n + i) + 2 ^ 80 * (o + j) + 2 ^ 120 * (s + k) ≡ p + 2 ^ 40 * q + 2 ^ 80 * r + 2 ^ 120 * s
-join p q r s m n o i j k e f g = omega arith
+limbs-joined p q r s m n o i j k e f g = omega arith
 
-parts : (x : ℕ) → x % 2 ^ 40 + 2 ^ 40 * (x / 2 ^ 40) ≡ x
-parts x = omega arith
+limb-parts : (x : ℕ) → x % 2 ^ 40 + 2 ^ 40 * (x / 2 ^ 40) ≡ x
+limb-parts x = omega arith
 
 multiplied : (a b c d w : ℕ) → a * w + 2 ^ 40 * (b * w) + 2 ^ 80 * (c * w) + 2 ^ 120 * (d * w) ≡ (a + 2 ^ 40 * b + 2 ^ 80 * c + 2 ^ 120 * d) * w
 multiplied a b c d w = omega arith
@@ -84,10 +84,10 @@ multiplied a b c d w = omega arith
 abbrev pub shiftedLimb : ℕ → ℕ → ℕ → ℕ
 shiftedLimb x y d = x * 2 ^ d % 2 ^ 40 + y * 2 ^ d / 2 ^ 40
 
-pub shifted : (a : List ℕ) (d : ℕ) → d < 40 → Reduced a → getD a 3 0 < 2 ^ (40 - d)
+pub digits-shifted : (a : List ℕ) (d : ℕ) → d < 40 → Reduced a → getD a 3 0 < 2 ^ (40 - d)
     → ShiftedLeft a (shiftedLimb (getD a 0 0) 0 d ∷ shiftedLimb (getD a 1 0) (getD a 0 0) d ∷ shiftedLimb (getD a 2 0) (getD a 1 0) d ∷ shiftedLimb (getD a 3 0) (getD a 2 0) d ∷ []) d
     × (getD a 3 0 * 2 ^ d ≤ shiftedLimb (getD a 3 0) (getD a 2 0) d)
-shifted a d h g l =
+digits-shifted a d h g l =
     let w = getD a 0 0 in
     let x = getD a 1 0 in
     let y = getD a 2 0 in
@@ -99,7 +99,7 @@ shifted a d h g l =
         reduced = record { limb0 = limb-lt w 0 d h (omega arith); limb1 = limb-lt x w d h (g .limb0); limb2 = limb-lt y x d h (g .limb1); limb3 = limb-lt z y d h (g .limb2) };
         same =
             ap₂ (λ (f e : ℕ). w * 2 ^ d % 2 ^ 40 + f + 2 ^ 40 * shiftedLimb x w d + 2 ^ 80 * shiftedLimb y x d + 2 ^ 120 * (e + y * 2 ^ d / 2 ^ 40)) none last
-            ∙ join (w * 2 ^ d) (x * 2 ^ d) (y * 2 ^ d) (z * 2 ^ d) _ _ _ _ _ _ (parts (w * 2 ^ d)) (parts (x * 2 ^ d)) (parts (y * 2 ^ d))
+            ∙ limbs-joined (w * 2 ^ d) (x * 2 ^ d) (y * 2 ^ d) (z * 2 ^ d) _ _ _ _ _ _ (limb-parts (w * 2 ^ d)) (limb-parts (x * 2 ^ d)) (limb-parts (y * 2 ^ d))
             ∙ multiplied w x y z (2 ^ d);
       },
       le-trans (le-of-eq (sym last)) (le-add-right (z * 2 ^ d % 2 ^ 40) (y * 2 ^ d / 2 ^ 40)),
@@ -117,34 +117,34 @@ shifted-on a b r s d p q =
 
 -- how many zeros stand above the leading digit of a limb x that is not 0, of its 40 places
 module _ (x : ℕ) (p : 0 < x) (l : x < 2 ^ 40) where
-  abbrev zeros : ℕ
-  zeros = leadingZeros 64 x
+  abbrev leading-zeros : ℕ
+  leading-zeros = leadingZeros 64 x
 
-  top : (j : ℕ) × (zeros + suc j ≡ 64) × (2 ^ j ≤ x) × (x < 2 ^ suc j)
-  top = leading-top 64 x p (lt-of-lt-of-le l (pow-mono {i = 40} {j = 64} (omega arith)))
+  leading-digit : (j : ℕ) × (leading-zeros + suc j ≡ 64) × (2 ^ j ≤ x) × (x < 2 ^ suc j)
+  leading-digit = leading-top 64 x p (lt-of-lt-of-le l (pow-mono {i = 40} {j = 64} (omega arith)))
 
-  top-lt : top .0 < 40
-  top-lt = lt-of-not-le (λ (g : 40 ≤ top .0). not-le-of-lt l (le-trans (pow-mono g) (top .2)))
+  leading-digit-lt : leading-digit .0 < 40
+  leading-digit-lt = lt-of-not-le (λ (g : 40 ≤ leading-digit .0). not-le-of-lt l (le-trans (pow-mono g) (leading-digit .2)))
 
-  pub zeros-ge : 24 ≤ zeros
-  zeros-ge = omega (arith, top .1, top-lt)
+  pub zeros-ge : 24 ≤ leading-zeros
+  zeros-ge = omega (arith, leading-digit .1, leading-digit-lt)
 
-  pub zeros-lt : zeros - 24 < 40
-  zeros-lt = omega (arith, top .1)
+  pub zeros-lt : leading-zeros - 24 < 40
+  zeros-lt = omega (arith, leading-digit .1)
 
-  pub digits-fit : x < 2 ^ (40 - (zeros - 24))
-  digits-fit = let q : suc (top .0) ≡ 40 - (zeros - 24) = omega (arith, top .1, top-lt) in lt-of-lt-of-le (top .3) (le-of-eq (ap (λ (k : ℕ). 2 ^ k) q))
+  pub digits-fit : x < 2 ^ (40 - (leading-zeros - 24))
+  digits-fit = let q : suc (leading-digit .0) ≡ 40 - (leading-zeros - 24) = omega (arith, leading-digit .1, leading-digit-lt) in lt-of-lt-of-le (leading-digit .3) (le-of-eq (ap (λ (k : ℕ). 2 ^ k) q))
 
-  pub leads : 2 ^ 39 ≤ x * 2 ^ (zeros - 24)
+  pub leads : 2 ^ 39 ≤ x * 2 ^ (leading-zeros - 24)
   leads =
-      let e : 39 ≡ top .0 + (zeros - 24) = omega (arith, top .1, top-lt) in
-      le-trans (le-of-eq (ap (λ (k : ℕ). 2 ^ k) e ∙ pow-add 2 (top .0) (zeros - 24))) (mul-le-mul-right (2 ^ (zeros - 24)) (top .2))
+      let e : 39 ≡ leading-digit .0 + (leading-zeros - 24) = omega (arith, leading-digit .1, leading-digit-lt) in
+      le-trans (le-of-eq (ap (λ (k : ℕ). 2 ^ k) e ∙ pow-add 2 (leading-digit .0) (leading-zeros - 24))) (mul-le-mul-right (2 ^ (leading-zeros - 24)) (leading-digit .2))
 
-  pub zeros-fit : Fits w64 zeros
-  zeros-fit = omega (arith, top .1)
+  pub zeros-fit : Fits w64 leading-zeros
+  zeros-fit = omega (arith, leading-digit .1)
 
-  pub by-lt : (s : ℕ) → s ≤ 120 → s + (zeros - 24) < 160
-  by-lt s h = omega (arith, top .1)
+  pub by-lt : (s : ℕ) → s ≤ 120 → s + (leading-zeros - 24) < 160
+  by-lt s h = omega (arith, leading-digit .1)
 
-  pub by-fits : (s : ℕ) → s ≤ 120 → Fits w64 (s + (zeros - 24))
-  by-fits s h = omega (arith, top .1)
+  pub by-fits : (s : ℕ) → s ≤ 120 → Fits w64 (s + (leading-zeros - 24))
+  by-fits s h = omega (arith, leading-digit .1)

@@ -20,9 +20,9 @@ length-digits b zero n = refl
 length-digits b (suc w) n = length-append (digits b w (n / b)) (digit (n % b) ∷ []) ∙ omega (arith, length-digits b w (n / b))
 
 -- the last digit may be stored first
-pub last-first : (b w n : ℕ) (s : List ℕ) (at : ℕ) → sets (set s (at + w) (digit (n % b))) at (digits b w (n / b)) ≡ sets s at (digits b (suc w) n)
+pub last-digit-first : (b w n : ℕ) (s : List ℕ) (at : ℕ) → sets (set s (at + w) (digit (n % b))) at (digits b w (n / b)) ≡ sets s at (digits b (suc w) n)
 unfolding digits
-last-first b w n s at = sets-swap s (digits b w (n / b)) (digit (n % b) ∷ []) at w (length-digits b w (n / b))
+last-digit-first b w n s at = sets-swap s (digits b w (n / b)) (digit (n % b) ∷ []) at w (length-digits b w (n / b))
 
 -- enough steps are enough
 steps : (j k n : ℕ) → n < j → n < k → decimalIn j n ≡ decimalIn k n
@@ -51,11 +51,11 @@ pub length-more : (n : ℕ) → 10 ≤ n → length (decimal n) ≡ length (deci
 length-more n h = ap length (decimal-more n h) ∙ length-append (decimal (n / 10)) (digit (n % 10) ∷ [])
 
 -- below 10^k there are at most k digits
-pub short : (k n : ℕ) → n < 10 ^ suc k → length (decimal n) ≤ suc k
-short zero n h = omega (arith, length-one n h)
-short (suc k) n h =
+pub few-digits : (k n : ℕ) → n < 10 ^ suc k → length (decimal n) ≤ suc k
+few-digits zero n h = omega (arith, length-one n h)
+few-digits (suc k) n h =
     elim (decLe 10 n) [
-      | yes l ↦ omega (arith, length-more n l, short k (n / 10) (shorter l))
+      | yes l ↦ omega (arith, length-more n l, few-digits k (n / 10) (shorter l))
       | no l ↦ omega (arith, length-one n (omega arith))
     ]
   where

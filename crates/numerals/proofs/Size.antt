@@ -6,10 +6,10 @@ use lib.IntN.{ℤ, pos, negsuc, natAbs}
 use lib.ListN.{length}
 use Rattle.numerals.specs.Numerals.{decimal, integer, hexadecimal}
 use Rattle.numerals.specs.Steps.{longestDecimal, longestInteger, longestBits}
-use Rattle.numerals.proofs.Digits.{short, length-digits}
+use Rattle.numerals.proofs.Digits.{few-digits, length-digits}
 
 pub length-decimal : (n : ℕ) → n < 2 ^ 32 → length (decimal n) ≤ longestDecimal
-length-decimal n h = short 9 n (omega arith)
+length-decimal n h = few-digits 9 n (omega arith)
 
 pub length-integer : (z : ℤ) → natAbs z < 2 ^ 32 → length (integer z) ≤ longestInteger
 unfolding integer

@@ -27,8 +27,8 @@ pub longer : {s s′ w : List ℕ} {at k j r : ℕ} → Continued s at w k s′ 
 longer p h = record { continues = p .continues; growth = omega arith }
 
 -- n bytes stored at the end of the text
-pub stored : (s s′ : List ℕ) (at : ℕ) (w : List ℕ) (n k : ℕ) → s′ ≡ sets s at w → length w ≡ n → at + n ≤ length s → n ≤ k → Continued s at w k s′ (at + n)
-stored s s′ at w n k e l h m =
+pub text-stored : (s s′ : List ℕ) (at : ℕ) (w : List ℕ) (n k : ℕ) → s′ ≡ sets s at w → length w ≡ n → at + n ≤ length s → n ≤ k → Continued s at w k s′ (at + n)
+text-stored s s′ at w n k e l h m =
     let q : length (take at s ++ w) ≡ at + n =
     length-append (take at s) w ∙ ap (λ (i : ℕ). i + length w) (length-take-le at s (omega arith)) ∙ ap (λ (i : ℕ). at + i) l in
     record {

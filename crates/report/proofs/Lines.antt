@@ -46,7 +46,7 @@ pub finished : (s : Section) (l : FinishedLine) → accepted l ≡ lineOf (some 
 unfolding lineText
 finished s l e =
     let g = line-given s l (sym e) in
-    (g .finite-sum, rw (← g .is, g .small, g .within))
+    (g .finite-sum, rw (← g .is, g .small, g .not-beyond))
 
 -- where a line is refused, its figure is refused with the same number
 pub unfinished : (s : Section) (n : ℕ) → refused n ≡ lineOf (some s)

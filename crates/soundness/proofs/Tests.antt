@@ -30,9 +30,9 @@ pub size-positive : (z : ℤ) (s : ℕ) → SFits w64 z → ltZ (toZ w64 (ofZ w6
 size-positive (pos n) s f e = omega (arith, ap natAbs (from-zero w64 (pos n) f e .same))
 size-positive (negsuc k) s f e = let b = from-zero w64 (negsuc k) f e in absurd (omega (arith, b .most, b .bits-are))
 
-pub zero-bits : (z : ℤ) → SFits w64 z → eqb (ofZ w64 z) 0 ≡ eqb (natAbs z) 0
-zero-bits (pos n) f = refl
-zero-bits (negsuc n) f = ne-eqb (2 ^ 64 - suc n) 0 (λ e. omega arith) ∙ sym (ne-eqb (suc n) 0 (λ e. omega arith))
+pub zero-by-bits : (z : ℤ) → SFits w64 z → eqb (ofZ w64 z) 0 ≡ eqb (natAbs z) 0
+zero-by-bits (pos n) f = refl
+zero-by-bits (negsuc n) f = ne-eqb (2 ^ 64 - suc n) 0 (λ e. omega arith) ∙ sym (ne-eqb (suc n) 0 (λ e. omega arith))
 
 -- ---- going through the keys, and through the records, from the front
 
@@ -53,8 +53,8 @@ module _ (ks : List ℕ) (j : ℕ) where
   pub rising-stop : suc j < length ks → getD ks (suc j) 0 ≤ getD ks j 0 → rising (drop j ks) ≡ false
   rising-stop h l = two h ∙ rw (le-ltb (getD ks j 0) (getD ks (suc j) 0) l)
 
-  pub rising-end : length ks ≤ suc j → rising (drop j ks) ≡ true
-  rising-end h = rising-short (drop j ks) (rw length-drop (omega arith))
+  pub rising-last : length ks ≤ suc j → rising (drop j ks) ≡ true
+  rising-last h = rising-short (drop j ks) (rw length-drop (omega arith))
 
 pub sound-cons : (rs : List Record) (i : ℕ) (d : Record) → i < length rs → soundRecords (drop i rs) ≡ (soundRecord (getD rs i d) && soundRecords (drop (suc i) rs))
 unfolding soundRecords

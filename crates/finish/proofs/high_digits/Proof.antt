@@ -2,7 +2,7 @@ use mathlib.Core.Path.{_≡_, ap, _∙_}
 use Prim.Native.Nat.{ℕ, _+_, _*_}
 use native.Mathlib.Omega.{arith}
 use mir.Syntax.{w64}
-use Rattle.integers.proofs.Width.{back}
+use Rattle.integers.proofs.Width.{bits-back}
 use Rattle.level.specs.Carry.{carryBase}
 use Rattle.finish.specs.Raised.{raisedCarry}
 use Rattle.finish.proofs.Whole.{high-lt, high-same}
@@ -14,7 +14,7 @@ returns : tie.Need-returns
 returns c =
     let h = c .before .before .before .args .h in
     let n = c .before .before .before .pre in
-    let e : c .raised-carry .result ≡ raisedCarry (h .carry) = c .raised-carry .ensures .0 ∙ ap raisedCarry (back w64 (h .carry) (omega (arith, n .1))) in
+    let e : c .raised-carry .result ≡ raisedCarry (h .carry) = c .raised-carry .ensures .0 ∙ ap raisedCarry (bits-back w64 (h .carry) (omega (arith, n .1))) in
     (high-lt _ _ (n .0) (c .raised-carry .ensures .1), high-same (h .residue) (c .raised-carry .result) ∙ ap (λ (x : ℕ). h .residue + carryBase * x) e)
 
 pub high-digits-spec : {M : Type 1} → statement M

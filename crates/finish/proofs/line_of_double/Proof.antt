@@ -1,4 +1,4 @@
-use Rattle.finish.proofs.Outcomes.{given, withheld}
+use Rattle.finish.proofs.Outcomes.{figure-passed, withheld}
 use mathlib.Core.Path.{sym, ap, _∙_}
 use lib.IntN.{ℤ}
 use mir.Syntax.{w32}
@@ -17,7 +17,7 @@ returns c =
     let f : ℤ → FinishedLine = λ z. record { key = a .key; count = a .count; sum = a .sum; figure = z } in
     let back = toZ-ofZ {w = w32} {z = c .before .figure .given .0 .0} (record { sfits = c .known-told .given .0 .1 }) in
     ap (λ (z : ℤ). accepted (f z)) back
-    ∙ given f (beyond (millFigure (a .sum))) (millFigure (a .sum)) (c .before .figure .given .0 .0) (sym (ap figureAnswer (c .before .figure .given .1)) ∙ c .before .before .before .mill-figure .ensures)
+    ∙ figure-passed f (beyond (millFigure (a .sum))) (millFigure (a .sum)) (c .before .figure .given .0 .0) (sym (ap figureAnswer (c .before .figure .given .1)) ∙ c .before .before .before .mill-figure .ensures)
 
 returns-2 : tie.Need-returns-2
 returns-2 c =

@@ -19,8 +19,8 @@ use Rattle.finish.proofs.look_up.Tie as tie
 is-true : (c : tie.Else1) → sound (now (c .before .before .before .args .table)) (c .before .before .before .args .g) ≡ true
 is-true c = sym (c .before .is-sound .ensures) ∙ not-false (c .before .is-sound .result) (c .if1 .left)
 
-holds : (c : tie.Else1) → T (sound (now (c .before .before .before .args .table)) (c .before .before .before .args .g))
-holds c = subst (λ (b : Bool). T b) (sym (is-true c)) tt
+sound-here : (c : tie.Else1) → T (sound (now (c .before .before .before .args .table)) (c .before .before .before .args .g))
+sound-here c = subst (λ (b : Bool). T b) (sym (is-true c)) tt
 
 -- the record at the place that was found
 at : (c : tie.After-known-told)
@@ -29,13 +29,13 @@ at : (c : tie.After-known-told)
     (i * 64 + 64 ≤ length (now (s .table))) × (find (s .key) (sections (now (s .table)) (s .g)) ≡ some (meaning (recordAt (now (s .table)) (i * 64)))) × T (soundRecord (recordAt (now (s .table)) (i * 64)))
 at c =
     let s = c .before .before .before .before .before .before .before .args in
-    found (now (s .table)) (s .g) (s .key) (c .before .i .given .0 .0) (holds (c .before .before .before .before)) (sym (c .before .i .given .1) ∙ c .before .before .before .binary-search .ensures)
+    found (now (s .table)) (s .g) (s .key) (c .before .i .given .0 .0) (sound-here (c .before .before .before .before)) (sym (c .before .i .given .1) ∙ c .before .before .before .binary-search .ensures)
 
 returns : tie.Need-returns
 returns c = sym (c .before .is-sound .ensures) ∙ not-true (c .before .is-sound .result) (c .if1 .taken)
 
 binary-search-requires : tie.Need-binary-search-requires
-binary-search-requires c κs = let p = sound-parts (now (c .before .before .before .args .table)) (c .before .before .before .args .g) (holds c) in (p .0, p .2)
+binary-search-requires c κs = let p = sound-parts (now (c .before .before .before .args .table)) (c .before .before .before .args .g) (sound-here c) in (p .0, p .2)
 
 get-requires : tie.Need-get-requires
 get-requires c κs = at c .0
@@ -50,7 +50,7 @@ returns-3 : tie.Need-returns-3
 returns-3 c =
     let e = c .before .before .before in
     let s = e .before .before .before .args in
-    (is-true e, missing (now (s .table)) (s .g) (s .key) (c .enum-told .given .0 .0) (holds e) (sym (c .enum-told .given .1) ∙ c .before .before .binary-search .ensures))
+    (is-true e, missing (now (s .table)) (s .g) (s .key) (c .enum-told .given .0 .0) (sound-here e) (sym (c .enum-told .given .1) ∙ c .before .before .binary-search .ensures))
 
 pub look-up-spec : {M : Type 1} → statement M
 look-up-spec =

@@ -15,8 +15,8 @@ use borrow.Author.Needs.{needs}
 use Rattle.finish.proofs.mill_figure.Statement.{statement}
 use Rattle.finish.proofs.mill_figure.Tie as tie
 
-holds : (c : tie.Start) → T (fits binary64 (c .args .sum))
-holds c = subst (λ (b : Bool). T b) (sym (c .good .0 .1)) tt
+fits-here : (c : tie.Start) → T (fits binary64 (c .args .sum))
+fits-here c = subst (λ (b : Bool). T b) (sym (c .good .0 .1)) tt
 
 float-to-bits-bits : tie.Need-float-to-bits-bits
 float-to-bits-bits c = not-nan (c .args .sum) (c .pre)
@@ -24,7 +24,7 @@ float-to-bits-bits c = not-nan (c .args .sum) (c .pre)
 returns : tie.Need-returns
 returns c =
     let s = c .before .before in
-    far-figure (s .args .sum) (holds s) (s .pre) (lt-of-lt-of-le (c .if1 .taken) (le-of-eq (c .before .exponent-field .ensures)))
+    far-figure (s .args .sum) (fits-here s) (s .pre) (lt-of-lt-of-le (c .if1 .taken) (le-of-eq (c .before .exponent-field .ensures)))
 
 nearest-hundredths-requires : tie.Need-nearest-hundredths-requires
 nearest-hundredths-requires c κs =
@@ -43,7 +43,7 @@ returns-2 c =
     let size : n .result ≡ nearestBy (λ (q : ℕ). not (negative b)) (significand b * 100) (2 ^ p .result) =
     n .ensures ∙ ap₂ (λ (m : ℕ) (t : Bool). nearestBy (λ (q : ℕ). not t) (m * 100) (2 ^ p .result)) (d .ensures) (g .ensures) in
     let below-one : p .result + (exponentField b - 1) ≡ 1074 = ap (λ (x : ℕ). p .result + (x - 1)) (sym (f .ensures)) ∙ p .ensures .0 in
-    let e : signed (g .result) (n .result) ≡ millFigure (s .args .sum) = ap₂ (λ (t : Bool) (m : ℕ). signed t m) (g .ensures) size ∙ near-figure (s .args .sum) (holds s) (s .pre) (p .result) below-one in
+    let e : signed (g .result) (n .result) ≡ millFigure (s .args .sum) = ap₂ (λ (t : Bool) (m : ℕ). signed t m) (g .ensures) size ∙ near-figure (s .args .sum) (fits-here s) (s .pre) (p .result) below-one in
     c .figure-of-size .ensures ∙ ap (λ (z : ℤ). cond (beyond z) (refused 15) (accepted z)) e
 
 pub mill-figure-spec : {M : Type 1} → statement M

@@ -23,11 +23,11 @@ few : (c : tie.Start) → c .args .r .count < 2 ^ 32
 few c = search needs
 
 -- the kept value, and what the limbs say of its size and sign
-abbrev value : tie.After-signed-difference → ℤ
-value c = kept (meaning (c .before .before .before .args .r))
+abbrev kept-here : tie.After-signed-difference → ℤ
+kept-here c = kept (meaning (c .before .before .before .args .r))
 
 sized : (c : tie.After-signed-difference)
-    → (natAbs (value c) * 2 ^ 80 ≡ valueOf (c .signed-difference .result .limbs) * 2 ^ (40 * c .before .before .before .args .r .top)) × (not (nonNeg (value c)) ≡ c .signed-difference .result .negative)
+    → (natAbs (kept-here c) * 2 ^ 80 ≡ valueOf (c .signed-difference .result .limbs) * 2 ^ (40 * c .before .before .before .args .r .top)) × (not (nonNeg (kept-here c)) ≡ c .signed-difference .result .negative)
 sized c =
     let s = c .before .before .before in
     kept-size (s .args .r) (valueOf (c .signed-difference .result .limbs)) _ _ (c .signed-difference .result .negative) (few s) (s .pre) (c .before .before .raised-limbs .ensures .same) (c .before .raise .ensures .same) (c .signed-difference .ensures .1)
@@ -45,7 +45,7 @@ returns c =
     let k = sized d in
     let e : v ≡ 0 = eqb-true v 0 (sym (c .before .is-zero .ensures) ∙ c .if1 .taken) in
     let n = no-sign v (d .signed-difference .result .negative) _ _ e (d .signed-difference .ensures .1) in
-    sum-of-zero (value d) (no-size (natAbs (value d)) v _ (k .0) e) (k .1 ∙ n)
+    sum-of-zero (kept-here d) (no-size (natAbs (kept-here d)) v _ (k .0) e) (k .1 ∙ n)
 
 nearest-bits-requires : tie.Need-nearest-bits-requires
 nearest-bits-requires c κs =
@@ -56,7 +56,7 @@ nearest-bits-requires c κs =
       d .signed-difference .ensures .0,
       (
         (pos-of-ne-zero (eqb-false v 0 (sym (c .before .before .is-zero .ensures) ∙ c .before .if1 .left)), omega (arith, sound-record-parts (s .args .r) (s .pre) .top)),
-        ap (λ (x : ℕ). x * 2 ^ 80) (units-exact (natAbs (value d)) v _ (k .0)) ∙ k .0,
+        ap (λ (x : ℕ). x * 2 ^ 80) (units-exact (natAbs (kept-here d)) v _ (k .0)) ∙ k .0,
       ),
     )
 
@@ -66,9 +66,9 @@ returns-2 c =
     let k = sized d in
     let e : c .sum-of-bits .result ≡ sumOfBits (c .before .nearest-bits .result) (d .signed-difference .result .negative) = c .sum-of-bits .ensures in
     e
-    ∙ ap (λ (b : ℕ). sumOfBits b (d .signed-difference .result .negative)) (c .before .nearest-bits .ensures ∙ ap packed (units-exact (natAbs (value d)) (valueOf (d .signed-difference .result .limbs)) _ (k .0)))
-    ∙ ap (λ (s : Bool). sumOfBits (packed (natAbs (value d))) s) (sym (k .1))
-    ∙ sum-of-kept (value d)
+    ∙ ap (λ (b : ℕ). sumOfBits b (d .signed-difference .result .negative)) (c .before .nearest-bits .ensures ∙ ap packed (units-exact (natAbs (kept-here d)) (valueOf (d .signed-difference .result .limbs)) _ (k .0)))
+    ∙ ap (λ (s : Bool). sumOfBits (packed (natAbs (kept-here d))) s) (sym (k .1))
+    ∙ sum-of-kept (kept-here d)
 
 pub record-sum-spec : {M : Type 1} → statement M
 record-sum-spec =

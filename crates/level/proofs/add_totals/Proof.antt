@@ -9,7 +9,7 @@ use mir.ValLaws.{toZ-ofZ}
 use lib.IntN.{ℤ, pos, natAbs, _+ℤ_}
 use Rattle.level.specs.Carry.{carryBase}
 use Rattle.integers.proofs.Laws.{natAbs-+ℤ}
-use Rattle.integers.proofs.Width.{back}
+use Rattle.integers.proofs.Width.{bits-back}
 use Rattle.level.proofs.Carry.{split-sum}
 use Rattle.level.proofs.add_totals.Statement.{statement}
 use Rattle.level.proofs.add_totals.Tie as tie
@@ -17,21 +17,21 @@ use Rattle.level.proofs.add_totals.Tie as tie
 -- the sum of the two carries, and of that and the residues' carry
 module _ (x y p o : ℤ) (n : ℕ) (hx : natAbs x < 2 ^ 61) (hy : natAbs y < 2 ^ 61) (ep : p ≡ toZ w64 (ofZ w64 x) +ℤ toZ w64 (ofZ w64 y)) (eo : o ≡ pos n) (hn : n < 2 ^ 60) where
   first : p ≡ x +ℤ y
-  first = ep ∙ ap₂ _+ℤ_ (back w64 x (omega arith)) (back w64 y (omega arith))
+  first = ep ∙ ap₂ _+ℤ_ (bits-back w64 x (omega arith)) (bits-back w64 y (omega arith))
 
   first-small : natAbs p < 2 ^ 62
   first-small = omega (arith, natAbs-+ℤ x y, ap natAbs first)
 
   carries-fit : natAbs (toZ w64 (ofZ w64 p)) + natAbs (toZ w64 (ofZ w64 o)) < 2 ^ 63
-  carries-fit = let k : natAbs o < 2 ^ 60 = omega (arith, ap natAbs eo) in rw (back w64 p (omega (arith, first-small)), back w64 o (omega arith)) (omega (arith, first-small))
+  carries-fit = let k : natAbs o < 2 ^ 60 = omega (arith, ap natAbs eo) in rw (bits-back w64 p (omega (arith, first-small)), bits-back w64 o (omega arith)) (omega (arith, first-small))
 
   second : toZ w64 (ofZ w64 p) +ℤ toZ w64 (ofZ w64 o) ≡ x +ℤ y +ℤ pos n
-  second = let k : natAbs o < 2 ^ 60 = omega (arith, ap natAbs eo) in ap₂ _+ℤ_ (back w64 p (omega (arith, first-small)) ∙ first) (back w64 o (omega arith) ∙ eo)
+  second = let k : natAbs o < 2 ^ 60 = omega (arith, ap natAbs eo) in ap₂ _+ℤ_ (bits-back w64 p (omega (arith, first-small)) ∙ first) (bits-back w64 o (omega arith) ∙ eo)
 
 plus-requires : tie.Need-plus-requires
 plus-requires c κs =
     let s = c .before .before .before .before .before .before in
-    rw (back w64 (s .args .a .carry) (omega arith), back w64 (s .args .b .carry) (omega arith)) (omega arith)
+    rw (bits-back w64 (s .args .a .carry) (omega arith), bits-back w64 (s .args .b .carry) (omega arith)) (omega arith)
 
 returns : tie.Need-returns
 returns c =

@@ -58,10 +58,10 @@ three : (b x d n r m l : ℕ) (g o s p q : Bool) → x ≡ significand b → d �
     → (signed g n ≡ below (contribution b) (top b) 0) × (signed s m ≡ below (contribution b) (top b) 1) × (signed q l ≡ below (contribution b) (top b) 2)
 unfolding scaled
 three b x d n r m l g o s p q ex ed eg ec el es eq =
-    (rw (ec .0) (row 0), rw (el .0, es, ec .1, ec .2) (row 1), rw (el .2, eq, el .1, es, ec .1, ec .2) (row 2))
+    (rw (ec .0) (row-at 0), rw (el .0, es, ec .1, ec .2) (row-at 1), rw (el .2, eq, el .1, es, ec .1, ec .2) (row-at 2))
   where
-    row : (k : ℕ) → scaled (2 ^ d) g x k ≡ below (contribution b) (top b) k
-    row k = rw (ex, ed, eg) (sym (row-scaled b k))
+    row-at : (k : ℕ) → scaled (2 ^ d) g x k ≡ below (contribution b) (top b) k
+    row-at k = rw (ex, ed, eg) (sym (row-scaled b k))
 
 returns : tie.Need-returns
 returns c =

@@ -16,8 +16,8 @@ use Rattle.level.proofs.lower_two.Statement.{statement}
 use Rattle.level.proofs.lower_two.Tie as tie
 
 -- x of at most half of 2^e, shifted left by f, where 2^(e + f) is 2^40
-shifted : (x e f : ℕ) → x * 2 ≤ 2 ^ e → 2 ^ e * 2 ^ f ≡ 2 ^ 40 → x * 2 ^ f % 2 ^ 64 ≡ x * 2 ^ f
-shifted x e f h s = mod-eq-of-lt (omega (arith, mul-le-mul-right (2 ^ f) h))
+no-digit-lost : (x e f : ℕ) → x * 2 ≤ 2 ^ e → 2 ^ e * 2 ^ f ≡ 2 ^ 40 → x * 2 ^ f % 2 ^ 64 ≡ x * 2 ^ f
+no-digit-lost x e f h s = mod-eq-of-lt (omega (arith, mul-le-mul-right (2 ^ f) h))
 
 module _ (r d : ℕ) (h : (r * 2 ≤ 2 ^ d) × (d < 54)) where
   short : d ≤ 40
@@ -27,7 +27,7 @@ module _ (r d : ℕ) (h : (r * 2 ≤ 2 ^ d) × (d < 54)) where
       let x : r * 2 ^ 40 ≡ k * 2 ^ d = sym (mul-assoc r (2 ^ (40 - d)) (2 ^ d) ∙ ap (λ (w : ℕ). r * w) (pow-sum (40 - d) d 40 (omega arith))) in
       let u : closest (r * 2 ^ 40) (2 ^ d) ≡ k = ap (λ (y : ℕ). closest y (2 ^ d)) x ∙ closest-whole k (2 ^ d) (pow-pos d) in
       let z : restOf (r * 2 ^ 40) (2 ^ d) ≡ 0 = ap (λ (y : ℕ). restOf y (2 ^ d)) x ∙ rest-whole k (2 ^ d) (pow-pos d) in (
-        shifted r d (40 - d) (h .0) (pow-sum d (40 - d) 40 (omega arith)) ∙ sym u,
+        no-digit-lost r d (40 - d) (h .0) (pow-sum d (40 - d) 40 (omega arith)) ∙ sym u,
         sym (le-ltb (r * 2 ^ 40) (closest (r * 2 ^ 40) (2 ^ d) * 2 ^ d) (le-of-eq (ap (λ (n : ℕ). n * 2 ^ d) u ∙ sym x))),
         sym (closest-small (restOf (r * 2 ^ 40) (2 ^ d) * 2 ^ 40) (2 ^ d) (pow-pos d) (omega arith)),
       )
@@ -42,7 +42,7 @@ module _ (r d : ℕ) (h : (r * 2 ≤ 2 ^ d) × (d < 54)) where
       let k : m * 2 ^ (80 - d) * 2 ^ d ≡ m * 2 ^ 80 = mul-assoc m (2 ^ (80 - d)) (2 ^ d) ∙ ap (λ (w : ℕ). m * w) (pow-sum (80 - d) d 80 (omega arith)) in (
         rw (e .0, ← s) (sym (units-scale r v (2 ^ 40) q (pow-pos 40))),
         rw (e .2, ← s) (sym (direction-scale r v (2 ^ 40) q (pow-pos 40))),
-        shifted m (d - 40) (80 - d) (rw (e .1) (rest-half r v q)) (pow-sum (d - 40) (80 - d) 40 (omega arith))
+        no-digit-lost m (d - 40) (80 - d) (rw (e .1) (rest-half r v q)) (pow-sum (d - 40) (80 - d) 40 (omega arith))
             ∙ sym (closest-whole (m * 2 ^ (80 - d)) (2 ^ d) (pow-pos d)) ∙ ap (λ (y : ℕ). closest y (2 ^ d)) (omega arith),
       )
 

@@ -16,14 +16,14 @@ masked : (z : ℤ) → SFits w64 z → bitAnd (ofZ w64 z) (carryBase - 1) ≡ re
 masked (pos n) f = and-mask n 50
 masked (negsuc n) f = and-mask (2 ^ 64 - suc n) 50 ∙ low-fifty n (f .sfits)
 
-read : (z : ℤ) → SFits w64 z → toZ w64 (bitAnd (ofZ w64 z) (carryBase - 1)) ≡ pos (residueOf z)
-read z f = ap (toZ w64) (masked z f) ∙ toZ-pos w64 (residueOf z) (omega (arith, residue-lt z))
+residue-read : (z : ℤ) → SFits w64 z → toZ w64 (bitAnd (ofZ w64 z) (carryBase - 1)) ≡ pos (residueOf z)
+residue-read z f = ap (toZ w64) (masked z f) ∙ toZ-pos w64 (residueOf z) (omega (arith, residue-lt z))
 
 cast-result : tie.Need-cast-result
-cast-result c = rw (read (c .args .total) (c .fits .total)) (tt, omega (arith, residue-lt (c .args .total)))
+cast-result c = rw (residue-read (c .args .total) (c .fits .total)) (tt, omega (arith, residue-lt (c .args .total)))
 
 returns : tie.Need-returns
-returns c = ap natAbs (read (c .args .total) (c .fits .total))
+returns c = ap natAbs (residue-read (c .args .total) (c .fits .total))
 
 pub residue-of-spec : {M : Type 1} → statement M
 residue-of-spec = tie.close (tie.spec cast-result returns)

@@ -2,7 +2,7 @@ use mathlib.Core.Path.{ap, _∙_}
 use Prim.Native.Nat.{ℕ, _+_, _-_, _*_, _/_, _^_, _≤_}
 use native.Mathlib.Nat.{le-trans, le-of-eq}
 use Rattle.limbs.proofs.Leading.{leading-le}
-use Rattle.limbs.proofs.Scaled.{field-lt, sum-fits, assembled, shift-lt, shifted}
+use Rattle.limbs.proofs.Scaled.{field-lt, field-fits, assembled, shift-lt, assembled-small}
 use borrow.Author.Needs.{needs}
 use Rattle.limbs.proofs.nearest_bits.Statement.{statement}
 use Rattle.limbs.proofs.nearest_bits.Tie as tie
@@ -12,7 +12,7 @@ assemble-requires c κs =
     let s = c .before .before .before .before in
     let r = c .before .before .before .normalise in
     let q : c .before .leading-digits .result ≤ 2 ^ 53 = le-trans (le-of-eq (c .before .leading-digits .ensures)) (leading-le (r .result .limbs) (r .ensures .0 .reduced)) in
-    (field-lt (s .args .e) (r .result .by) (s .pre .1 .0 .1), sum-fits (s .args .e) (r .result .by) (c .before .leading-digits .result) (s .pre .1 .0 .1) q .fits)
+    (field-lt (s .args .e) (r .result .by) (s .pre .1 .0 .1), field-fits (s .args .e) (r .result .by) (c .before .leading-digits .result) (s .pre .1 .0 .1) q .fits)
 
 returns : tie.Need-returns
 returns c =
@@ -33,7 +33,7 @@ returns-2 c =
     let s = c .before .before .before .before in
     let r = c .before .before .before .normalise in
     ap (λ (q : ℕ). q / 2 ^ (r .result .by - (27 + s .args .e))) (c .before .leading-digits .ensures)
-    ∙ shifted (s .args .a) (r .result .limbs) (s .args .e) (r .result .by) (r .ensures .0) (r .ensures .1 .0) (s .pre .1 .1) (c .if1 .left)
+    ∙ assembled-small (s .args .a) (r .result .limbs) (s .args .e) (r .result .by) (r .ensures .0) (r .ensures .1 .0) (s .pre .1 .1) (c .if1 .left)
 
 pub nearest-bits-spec : {M : Type 1} → statement M
 nearest-bits-spec =

@@ -7,7 +7,7 @@ use native.Mathlib.Omega.{arith}
 use lib.ListN.{length, set, length-set}
 use lib.Seq.{sets}
 use Rattle.numerals.specs.Numerals.{digit, digits}
-use Rattle.numerals.proofs.Digits.{last-first}
+use Rattle.numerals.proofs.Digits.{last-digit-first}
 use Rattle.numerals.proofs.put_digits.Statement.{statement}
 use Rattle.numerals.proofs.put_digits.Tie as tie
 
@@ -22,7 +22,7 @@ iteration : (s₀ : List ℕ) (at n b w : ℕ) (s : List ℕ) (y k : ℕ) → In
     → Inv-loop s₀ at n b w n w (set s (at + (k - 1)) (digit (y % b))) (y / b) (k - 1)
 iteration s₀ at n b w s y k inv h =
     let e : k ≡ suc (k - 1) = omega arith in
-    (omega arith, length-set s (at + (k - 1)) (digit (y % b)) ∙ inv .1, last-first b (k - 1) y s at ∙ (rw e at (inv .2)))
+    (omega arith, length-set s (at + (k - 1)) (digit (y % b)) ∙ inv .1, last-digit-first b (k - 1) y s at ∙ (rw e at (inv .2)))
 
 done : (s₀ : List ℕ) (at n b w : ℕ) (s : List ℕ) (y k : ℕ) → Inv-loop s₀ at n b w n w s y k → k ≡ 0 → s ≡ sets s₀ at (digits b w n)
 unfolding digits

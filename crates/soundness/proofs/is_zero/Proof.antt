@@ -3,7 +3,7 @@ use mathlib.Core.Bool.{Bool, _&&_}
 use lib.Dec.{eqb}
 use mir.Syntax.{w64}
 use mir.Val.{SFits}
-use Rattle.soundness.proofs.Tests.{zero-bits}
+use Rattle.soundness.proofs.Tests.{zero-by-bits}
 use Rattle.record.specs.Sound.{isZero}
 use borrow.Author.Needs.{needs}
 use Rattle.soundness.proofs.is_zero.Statement.{statement}
@@ -15,7 +15,7 @@ in-range c = search needs
 returns : tie.Need-returns
 unfolding isZero
 returns c = let a = c .before .before .before .before in
-    c .both .ensures ∙ ap (λ (t : Bool). eqb (a .args .x .residue) 0 && t) (zero-bits (a .args .x .carry) (in-range a))
+    c .both .ensures ∙ ap (λ (t : Bool). eqb (a .args .x .residue) 0 && t) (zero-by-bits (a .args .x .carry) (in-range a))
 
 pub is-zero-spec : {M : Type 1} → statement M
 is-zero-spec = tie.close (tie.spec (λ c κs. search needs) returns)

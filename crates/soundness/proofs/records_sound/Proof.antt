@@ -15,7 +15,7 @@ use Rattle.record.specs.Layout.{recordAt, records, decode}
 use Rattle.record.specs.Keys.{recordKeys, rising}
 use Rattle.record.specs.Sound.{soundRecord, soundRecords}
 use Rattle.record.proofs.Laws.{getD-records, getD-keys, length-keys}
-use Rattle.soundness.proofs.Tests.{sound-cons, rising-more, rising-stop, rising-end}
+use Rattle.soundness.proofs.Tests.{sound-cons, rising-more, rising-stop, rising-last}
 use Rattle.soundness.proofs.records_sound.Statement.{statement}
 use Rattle.soundness.proofs.records_sound.Tie as tie
 
@@ -47,7 +47,7 @@ module _ (s : List ℕ) (g i : ℕ) (fits : g * 64 ≤ length s) (h : i < g) {r 
   last : not ok ≡ false → g ≤ i + 1 → from s g i ≡ from s g (i + 1)
   last e l =
       let ks = recordKeys (records s g) in
-      ap₂ (λ (a b : Bool). a && b) (rising-end ks i (omega (arith, length-keys s g)) ∙ sym (rising-end ks (i + 1) (omega (arith, length-keys s g)))) (more e)
+      ap₂ (λ (a b : Bool). a && b) (rising-last ks i (omega (arith, length-keys s g)) ∙ sym (rising-last ks (i + 1) (omega (arith, length-keys s g)))) (more e)
 
   -- the key of the next record is y, as it was read
   module _ (l : i + 1 < g) {y : ℕ} (ey : y ≡ numberAt 4 s ((i + 1) * 64)) where
@@ -82,23 +82,23 @@ module _ (e : tie.Else1 Inv-loop μ-loop) where
   abbrev key : ℕ
   key = e .before .before .get .result .key
 
-  inside : i < g
-  inside = e .before .before .before .loop-test .taken
+  before-end : i < g
+  before-end = e .before .before .before .loop-test .taken
 
   undecided : from t g i ≡ (rising (recordKeys (records t g)) && soundRecords (records t g))
   undecided = e .before .before .before .before .loop .inv .1
 
   -- the next key y is not larger
   falls : i + 1 < g → {y : ℕ} → y ≡ numberAt 4 t ((i + 1) * 64) → y ≤ key → false ≡ (rising (recordKeys (records t g)) && soundRecords (records t g))
-  falls l ey q = sym (fall t g i (start .pre) inside (e .before .before .get .ensures) (e .before .record-sound .ensures) l ey q) ∙ undecided
+  falls l ey q = sym (fall t g i (start .pre) before-end (e .before .before .get .ensures) (e .before .record-sound .ensures) l ey q) ∙ undecided
 
   -- it is larger
   rises : i + 1 < g → {y : ℕ} → y ≡ numberAt 4 t ((i + 1) * 64) → key < y → from t g (i + 1) ≡ (rising (recordKeys (records t g)) && soundRecords (records t g))
-  rises l ey q = sym (rise t g i (start .pre) inside (e .before .before .get .ensures) (e .before .record-sound .ensures) l ey (e .if1 .left) q) ∙ undecided
+  rises l ey q = sym (rise t g i (start .pre) before-end (e .before .before .get .ensures) (e .before .record-sound .ensures) l ey (e .if1 .left) q) ∙ undecided
 
   -- there is none
-  ends : g ≤ i + 1 → from t g (i + 1) ≡ (rising (recordKeys (records t g)) && soundRecords (records t g))
-  ends l = sym (last t g i (start .pre) inside (e .before .before .get .ensures) (e .before .record-sound .ensures) (e .if1 .left) l) ∙ undecided
+  last-passes : g ≤ i + 1 → from t g (i + 1) ≡ (rising (recordKeys (records t g)) && soundRecords (records t g))
+  last-passes l = sym (last t g i (start .pre) before-end (e .before .before .get .ensures) (e .before .record-sound .ensures) (e .if1 .left) l) ∙ undecided
 
 loop-holds : tie.Need-loop-holds Inv-loop μ-loop
 loop-holds c = (zero-le, refl)
@@ -116,7 +116,7 @@ loop-again : tie.Need-loop-again Inv-loop μ-loop
 loop-again c = (omega arith, rises (c .before .before .before .before) (omega arith) (c .before .before .u32-at .ensures) (c .if3 .left))
 
 loop-again-2 : tie.Need-loop-again-2 Inv-loop μ-loop
-loop-again-2 c = (omega arith, ends (c .before) (omega arith))
+loop-again-2 c = (omega arith, last-passes (c .before) (omega arith))
 
 returns-3 : tie.Need-returns-3 Inv-loop μ-loop
 unfolding soundRecords
@@ -124,7 +124,7 @@ returns-3 c =
     let a = c .before .before .before .args in
     let l = c .before .loop in
     let rs = records (a .t .now) (a .g) in
-    sym (ap₂ (λ (x y : Bool). x && y) (rising-end (recordKeys rs) (l .i) (omega (arith, length-keys (a .t .now) (a .g))))
+    sym (ap₂ (λ (x y : Bool). x && y) (rising-last (recordKeys rs) (l .i) (omega (arith, length-keys (a .t .now) (a .g))))
     (ap soundRecords (drop-of-length-le rs {i = l .i} (omega (arith, length-cells 64 decode (a .g) (a .t .now)))))) ∙ l .inv .1
 
 pub records-sound-spec : {M : Type 1} → statement M
