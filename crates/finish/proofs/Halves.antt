@@ -1,4 +1,5 @@
--- The mill figure is the whole number nearest to 100 times the sum, an exact half going up.
+-- The mill figure is the whole number nearest to 100 times the sum, an exact half going up. The idea: it is at most half a unit above and less than half a unit
+-- below; then any number above it is farther away, and none below it is nearer.
 use mathlib.Core.Path.{_≡_, sym, ap}
 use mathlib.Core.Logic.{⊎-elim}
 use mathlib.Core.Bool.{Bool, true, false, not}

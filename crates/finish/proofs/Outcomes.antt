@@ -5,8 +5,6 @@ use mathlib.Core.Bool.{Bool, true, false, not, cond}
 use mathlib.Core.List.{List, [], _∷_}
 use mathlib.Core.Option.{Option, none, some}
 use Prim.Native.Nat.{ℕ, _^_}
-use native.Mathlib.Nat.{lt-irrefl}
-use native.Mathlib.Omega.{arith}
 use lib.Dec.{T, eqb}
 use lib.IntN.{ℤ, natAbs}
 use lib.Signed.{nonNeg}
@@ -14,6 +12,7 @@ use lib.Ieee.{Float, binary64, ofBits, toBits}
 use lib.Ieee.Bits.{ofBits-toBits}
 use lib.Ieee.Fits.{round-fits}
 use lib.Ieee.Scale.{finite}
+use Rattle.lists.proofs.Booleans.{never}
 use Rattle.refusal.specs.Outcome.{Outcome, accepted, refused, Ground, ground, outcome, IsLowest, risingFrom, isRefusal, isGround}
 use Rattle.refusal.proofs.Outcomes.{accepted≢refused, accepted-not, accepted-value, lowest, refused-alike, not-given}
 use Rattle.record.specs.Sound.{sound, soundRecord}
@@ -30,10 +29,6 @@ use Rattle.finish.specs.declared.Lookup.the-variants.{Found, Missing, Un
 use Rattle.finish.specs.declared.SectionSum.{SectionSum}
 use Rattle.finish.specs.declared.SectionSum.the-variants.{Finite, Absent, TooLarge, NotSound}
 use Rattle.finish.proofs.Sums.{double-finite}
-
--- two constructors are never equal
-pub never : {A : Type 0} → _≡_ {A = ℕ} 0 1 → A
-never e = absurd (lt-irrefl 0 (omega arith))
 
 -- ---- by whether the kept value is too large; where it is not, its sum is finite
 
@@ -146,12 +141,12 @@ bits-back k = ofBits-toBits binary64 (nearestDouble k) (round-fits binary64 (not
 
 -- a figure that is given, and one that is refused, and what a line makes of it
 pub figure-passed : {A : Type 0} (f : ℤ → A) (b : Bool) (x z : ℤ) → accepted z ≡ cond b (refused 15) (accepted x) → accepted (f z) ≡ cond b (refused 15) (accepted (f x))
-figure-passed f true x z e = never (cc)
+figure-passed f true x z e = never cc
 figure-passed f false x z e = let q : z ≡ x = cc in ap (λ (y : ℤ). accepted (f y)) q
 
 pub withheld : {A : Type 0} (a : A) (b : Bool) (x : ℤ) (n : ℕ) → refused n ≡ cond b (refused 15) (accepted x) → refused n ≡ cond b (refused 15) (accepted a)
 withheld a true x n e = let q : n ≡ 15 = cc in ap refused q
-withheld a false x n e = never (cc)
+withheld a false x n e = never cc
 
 -- ---- on a table, by what a lookup says of it
 

@@ -12,6 +12,7 @@ use lib.IntN.{ℤ, pos, negsuc, _+ℤ_, _*ℤ_, natAbs}
 use lib.Signed.{nonNeg}
 use mir.Syntax.{w64}
 use mir.Val.{toZ, ofZ}
+use Rattle.lists.proofs.Booleans.{never}
 use Rattle.integers.proofs.Diff.{_⊝_, ints, byParts, byParts₃}
 use Rattle.integers.proofs.Laws.{natAbs-scale}
 use Rattle.integers.proofs.Width.{bits-back}
@@ -96,7 +97,7 @@ sign-is (negsuc n) false c m l h e = let g = simp ints at e in let p = mul-pos {
 
 difference-some : (s : Bool) (v p q : ℕ) → SignedDifference s v p q → s ≡ true → 0 < v
 difference-some true v p q e h = e .1
-difference-some false v p q e h = let z : _≡_ {A = ℕ} 0 1 = cc in absurd (lt-irrefl 0 (omega arith))
+difference-some false v p q e h = never cc
 
 -- the size and the sign of a sound record's kept value: P holds the raised totals, Q what they were raised by, and v is their distance
 pub kept-size : (r : Record) (v P Q : ℕ) (s : Bool) → r .count < 2 ^ 32 → T (soundRecord r)

@@ -1,6 +1,13 @@
--- What a conjunction that holds and a disjunction that does not say of their parts.
+-- What a conjunction that holds and a disjunction that does not say of their parts; and what two constructors that are equal say.
+use Prim.Native.Nat.{ℕ}
 use mathlib.Core.Path.{_≡_, refl, sym}
 use mathlib.Core.Bool.{Bool, true, false, _&&_, _||_, true≢false}
+use native.Mathlib.Nat.{lt-irrefl}
+use native.Mathlib.Omega.{arith}
+
+-- two constructors are never equal: `never cc`
+pub never : {A : Type 0} → _≡_ {A = ℕ} 0 1 → A
+never e = absurd (lt-irrefl 0 (omega arith))
 
 pub both-true : (a b : Bool) → (a && b) ≡ true → (a ≡ true) × (b ≡ true)
 both-true true b e = (refl, e)

@@ -16,7 +16,7 @@ use Rattle.patch.specs.File.{readOutcome, keyColumn, valueColumn}
 use Rattle.record.specs.Section.{sections}
 use Rattle.table.specs.Calls.{addSections, addOutcome, addLeaves}
 use Rattle.table.proofs.Accepted.{Left, proper-none, add-left}
-use Rattle.finish.proofs.Outcomes.{never}
+use Rattle.lists.proofs.Booleans.{never}
 use Rattle.report.specs.Text.{tableBytes, refusalText, lineFeed, headLine, lineText, emptyTable, addText, columnsText, fileText, reportText}
 use Rattle.report.specs.Answer.{printOutcome, printLeaves}
 use Rattle.numerals.specs.Steps.{Continued}
@@ -64,5 +64,5 @@ pub printed-fits : (out w : List ℕ) (n : ℕ) → accepted n ≡ printOutcome 
 printed-fits out w n e = by (ltb (length out) (length w)) (ltb-false (length out) (length w)) e
   where
     by : (b : Bool) → (b ≡ false → length w ≤ length out) → accepted n ≡ cond b (refused 16) (accepted (length w)) → n ≤ length out
-    by true h e = never (cc)
+    by true h e = never cc
     by false h e = let q : n ≡ length w = cc in rw q (h refl)
