@@ -18,7 +18,8 @@ use Rattle.level.specs.Double.{signed}
 use Rattle.level.proofs.Near.{pow-sum}
 use Rattle.level.proofs.Signs.{natAbs-signed}
 use Rattle.limbs.specs.Nearest.{rounded, nearestBy}
-use Rattle.limbs.proofs.Nearest.{order-lt, order-scale, nearest-at, nearest-floor, nearest-same}
+use Rattle.integers.proofs.Order.{order-lt, order-scale}
+use Rattle.limbs.proofs.Nearest.{nearest-at, nearest-floor, nearest-same}
 use Rattle.finish.specs.Figure.{beyond}
 
 -- ---- the rounded size

@@ -14,7 +14,8 @@ use lib.Ieee.Exact.{HasValue}
 use lib.Ieee.Scale.{finite}
 use lib.Ieee.Nearest.{closest, closest-mono}
 use Rattle.limbs.specs.Packed.{droppedDigits, significandOf, packed, infinite, signBit}
-use Rattle.limbs.proofs.Nearest.{le-or-lt, closest-odd}
+use Rattle.integers.proofs.Order.{le-or-lt}
+use Rattle.limbs.proofs.Nearest.{closest-odd}
 use Rattle.limbs.proofs.Packed.{significand-le, significand-ge, packed-bits, packed-inf, packed-finite}
 use Rattle.finish.specs.Sum.{limit}
 

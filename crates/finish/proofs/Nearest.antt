@@ -28,7 +28,8 @@ use Rattle.level.proofs.Binary64.{finite-binary64, value-binary64}
 use Rattle.finish.specs.Sum.{limit, nearestDouble, tooLarge, NearestFinite}
 use Rattle.limbs.specs.Nearest.{isOdd, nearestBy}
 use Rattle.limbs.specs.Packed.{droppedDigits, significandOf, signBit}
-use Rattle.limbs.proofs.Nearest.{le-or-lt, Halfway, nearest-near, nearest-even}
+use Rattle.integers.proofs.Order.{le-or-lt}
+use Rattle.limbs.proofs.Nearest.{Halfway, nearest-near, nearest-even}
 use Rattle.limbs.proofs.Packed.{reaches, packed-bits}
 use Rattle.finish.proofs.Limit.{limit-value, limit-number, limit-finite}
 

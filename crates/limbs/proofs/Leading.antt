@@ -12,7 +12,8 @@ use Rattle.limbs.specs.Limbs.{valueOf, Reduced}
 use Rattle.limbs.specs.Nearest.{isOdd, rounded}
 use Rattle.limbs.specs.Packed.{leadingDigits}
 use Rattle.limbs.proofs.Addition.{three-lt}
-use Rattle.limbs.proofs.Nearest.{order-same, nearest-at, nearest-ceiling}
+use Rattle.integers.proofs.Order.{order-same}
+use Rattle.limbs.proofs.Nearest.{nearest-at, nearest-ceiling}
 
 -- the 53 leading digits
 abbrev pub lead : List ℕ → ℕ

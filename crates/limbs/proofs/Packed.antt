@@ -15,9 +15,10 @@ use lib.Ieee.Fits.{down-pos, round-is, round-fits, kept-lt}
 use lib.Ieee.Exact.{HasValue, units-val}
 use lib.Ieee.Bits.{ofBits-toBits, cond-no}
 use lib.Ieee.Nearest.{closest, closest-same}
+use Rattle.integers.proofs.Order.{le-or-lt}
 use Rattle.limbs.specs.Nearest.{isOdd}
 use Rattle.limbs.specs.Packed.{droppedDigits, significandOf, packed, infinite, signBit}
-use Rattle.limbs.proofs.Nearest.{le-or-lt, nearest-floor, nearest-ceiling, closest-odd}
+use Rattle.limbs.proofs.Nearest.{nearest-floor, nearest-ceiling, closest-odd}
 
 -- ---- how many digits a number has
 
