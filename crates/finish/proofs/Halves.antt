@@ -17,7 +17,7 @@ use Rattle.level.specs.Cut.{absDiff}
 use Rattle.level.specs.Double.{signed, negative, magnitude, value}
 use Rattle.finish.specs.Figure.{HalfUp, millFigure}
 use Rattle.limbs.specs.Nearest.{nearestBy}
-use Rattle.integers.proofs.Order.{le-or-lt}
+use Rattle.integers.proofs.Naturals.{le-or-lt}
 use Rattle.limbs.proofs.Nearest.{nearest-within}
 use Rattle.level.proofs.Signs.{signed-mul}
 use Rattle.finish.proofs.Fraction.{bits-figure}

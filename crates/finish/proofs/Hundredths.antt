@@ -15,10 +15,9 @@ use mir.ValLaws.{toZ-pos}
 use Rattle.integers.proofs.Width.{minus-back}
 use Rattle.refusal.specs.Outcome.{Outcome, accepted, refused}
 use Rattle.level.specs.Double.{signed}
-use Rattle.level.proofs.Near.{pow-sum}
 use Rattle.level.proofs.Signs.{natAbs-signed}
 use Rattle.limbs.specs.Nearest.{rounded, nearestBy}
-use Rattle.integers.proofs.Order.{order-lt, order-scale}
+use Rattle.integers.proofs.Naturals.{pow-sum, order-lt, order-scale}
 use Rattle.limbs.proofs.Nearest.{nearest-at, nearest-floor, nearest-same}
 use Rattle.finish.specs.Figure.{beyond}
 

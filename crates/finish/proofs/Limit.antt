@@ -14,7 +14,7 @@ use lib.Ieee.Exact.{HasValue}
 use lib.Ieee.Scale.{finite}
 use lib.Ieee.Nearest.{closest, closest-mono}
 use Rattle.limbs.specs.Packed.{droppedDigits, significandOf, packed, infinite, signBit}
-use Rattle.integers.proofs.Order.{le-or-lt}
+use Rattle.integers.proofs.Naturals.{le-or-lt}
 use Rattle.limbs.proofs.Nearest.{closest-odd}
 use Rattle.limbs.proofs.Packed.{significand-le, significand-ge, packed-bits, packed-inf, packed-finite}
 use Rattle.finish.specs.Sum.{limit}

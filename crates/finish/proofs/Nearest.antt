@@ -23,12 +23,11 @@ use Rattle.level.specs.Double.{exponentField, fraction, significand, magnitude,
 use Rattle.level.specs.Cut.{absDiff}
 use Rattle.level.proofs.Signs.{sub-signed, natAbs-signed}
 use Rattle.level.proofs.Double.{significand-lt}
-use Rattle.level.proofs.Near.{pow-sum}
 use Rattle.level.proofs.Binary64.{finite-binary64, value-binary64}
 use Rattle.finish.specs.Sum.{limit, nearestDouble, tooLarge, NearestFinite}
 use Rattle.limbs.specs.Nearest.{isOdd, nearestBy}
 use Rattle.limbs.specs.Packed.{droppedDigits, significandOf, signBit}
-use Rattle.integers.proofs.Order.{le-or-lt}
+use Rattle.integers.proofs.Naturals.{le-or-lt, pow-sum}
 use Rattle.limbs.proofs.Nearest.{Halfway, nearest-near, nearest-even}
 use Rattle.limbs.proofs.Packed.{reaches, packed-bits}
 use Rattle.finish.proofs.Limit.{limit-value, limit-number, limit-finite}

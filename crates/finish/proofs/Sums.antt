@@ -16,7 +16,7 @@ use lib.Ieee.Scale.{finite}
 use Rattle.finish.specs.Sum.{limit, nearestDouble, tooLarge}
 use Rattle.limbs.specs.Nearest.{nearestBy}
 use Rattle.limbs.specs.Packed.{packed, infinite, signBit}
-use Rattle.integers.proofs.Order.{le-or-lt}
+use Rattle.integers.proofs.Naturals.{le-or-lt}
 use Rattle.limbs.proofs.Packed.{packed-value}
 use Rattle.finish.specs.Steps.{keptSum, sumOfBits}
 use Rattle.finish.specs.declared.SectionSum.the-variants.{Finite, TooLarge}

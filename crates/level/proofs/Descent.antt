@@ -8,9 +8,10 @@ use native.Mathlib.Decide.{decLt}
 use native.Mathlib.Omega.{arith}
 use lib.Dec.{ltb, leb·zero, leb·suc-zero, leb·suc-suc}
 use lib.IntN.{ℤ, pos, negℤ, negℤ-negℤ}
-use lib.Pow.{pow-pos, pow-add}
+use lib.Pow.{pow-pos}
 use lib.Ieee.Nearest.{closest, closest-same}
 use borrow.Author.Tests.{lt-ltb, le-ltb}
+use Rattle.integers.proofs.Naturals.{pow-sum}
 use Rattle.level.specs.Double.{signed, negative, exponentField, significand, magnitude, value}
 use Rattle.level.specs.Level.{unit, nearestTo, left, given, below, top, contribution}
 use Rattle.level.specs.Cut.{shiftOf, absDiff, restOf, roundedUp, flippedIf}
@@ -142,4 +143,4 @@ row-scaled b k =
     sym (givenBelow-is (top b) (value b) k)
     ∙ givenBelow-scaled (2 ^ shiftOf b) (pow-pos (shiftOf b)) (top b) (negative b) (magnitude b) (significand b) k
     (mul-assoc (significand b) (2 ^ (exponentField b - 1)) (2 ^ shiftOf b)
-    ∙ ap (λ (w : ℕ). significand b * w) (sym (pow-add 2 (exponentField b - 1) (shiftOf b)) ∙ ap (λ (e : ℕ). 2 ^ e) (omega (arith, top-place b))))
+    ∙ ap (λ (w : ℕ). significand b * w) (pow-sum (exponentField b - 1) (shiftOf b) (40 * top b) (omega (arith, top-place b))))

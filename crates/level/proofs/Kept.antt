@@ -7,10 +7,10 @@ use native.Mathlib.Omega.{arith}
 use lib.IntN.{ℤ, pos, negsuc, natAbs, _+ℤ_, _-ℤ_, _*ℤ_, +ℤ-idl, +ℤ-idr, +ℤ-assoc, +ℤ-comm, -ℤ-+ℤ-cancel}
 use lib.Pow.{pow-pos, pow-mono}
 use Rattle.integers.proofs.Laws.{size-zero}
+use Rattle.integers.proofs.Naturals.{pow-sum}
 use Rattle.level.specs.Double.{negative, exponentField, significand, magnitude, value}
 use Rattle.level.specs.Level.{unit, left, given, top, contribution, below, levelSum}
 use Rattle.level.proofs.Given.{left-half, left-size}
-use Rattle.level.proofs.Near.{pow-sum}
 use Rattle.level.proofs.Signs.{natAbs-signed}
 use Rattle.level.specs.Cut.{restOf}
 use Rattle.level.proofs.Top.{contribution-start, top-place}

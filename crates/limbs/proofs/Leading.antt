@@ -12,7 +12,7 @@ use Rattle.limbs.specs.Limbs.{valueOf, Reduced}
 use Rattle.limbs.specs.Nearest.{isOdd, rounded}
 use Rattle.limbs.specs.Packed.{leadingDigits}
 use Rattle.limbs.proofs.Addition.{three-lt}
-use Rattle.integers.proofs.Order.{order-same}
+use Rattle.integers.proofs.Naturals.{order-same}
 use Rattle.limbs.proofs.Nearest.{nearest-at, nearest-ceiling}
 
 -- the 53 leading digits

@@ -9,7 +9,7 @@ use borrow.Author.Tests.{eqb-true, eqb-false}
 use lib.Arith.{digits-div, digits-mod}
 use lib.Ieee.{nearest}
 use lib.Ieee.Nearest.{closest, div-same}
-use Rattle.integers.proofs.Order.{order-cases, order-lt, order-scale}
+use Rattle.integers.proofs.Naturals.{order-cases, order-lt, order-scale}
 use Rattle.limbs.specs.Nearest.{rounded, nearestBy, isOdd}
 
 -- ---- beside the quotient

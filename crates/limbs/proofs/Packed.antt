@@ -15,7 +15,7 @@ use lib.Ieee.Fits.{down-pos, round-is, round-fits, kept-lt}
 use lib.Ieee.Exact.{HasValue, units-val}
 use lib.Ieee.Bits.{ofBits-toBits, cond-no}
 use lib.Ieee.Nearest.{closest, closest-same}
-use Rattle.integers.proofs.Order.{le-or-lt}
+use Rattle.integers.proofs.Naturals.{le-or-lt, pow-sum}
 use Rattle.limbs.specs.Nearest.{isOdd}
 use Rattle.limbs.specs.Packed.{droppedDigits, significandOf, packed, infinite, signBit}
 use Rattle.limbs.proofs.Nearest.{nearest-floor, nearest-ceiling, closest-odd}
@@ -73,9 +73,7 @@ size-next : (k : ℕ) → size (2 ^ 53 * 2 ^ k) ≡ suc (53 + k)
 size-next k = ap size (sym (pow-add 2 53 k)) ∙ size-is (2 ^ (53 + k)) (53 + k) (le-refl (2 ^ (53 + k))) (pow-lt (lt-suc-self (53 + k)))
 
 halved : (k : ℕ) → 2 ^ 53 * 2 ^ k / 2 ^ suc k ≡ 2 ^ 52
-halved k =
-    let e : 53 + k ≡ 52 + suc k = omega arith in
-    ap (λ (x : ℕ). x / 2 ^ suc k) (sym (pow-add 2 53 k) ∙ ap (λ (x : ℕ). 2 ^ x) e ∙ pow-add 2 52 (suc k)) ∙ mul-div-cancel (2 ^ 52) (pow-pos (suc k))
+halved k = ap (λ (x : ℕ). x / 2 ^ suc k) (pow-sum 53 k (52 + suc k) (omega arith) ∙ pow-add 2 52 (suc k)) ∙ mul-div-cancel (2 ^ 52) (pow-pos (suc k))
 
 kept-next : (q k : ℕ) → q ≡ 2 ^ 53 → kept-of (q * 2 ^ k) (size (q * 2 ^ k) - 53) ≡ k * 2 ^ 52 + q
 kept-next q k e =

@@ -2,7 +2,7 @@
 -- digits as w less that power; so both parts of the bits follow from w and the power.
 use mathlib.Core.Path.{_≡_, sym, ap, _∙_}
 use Prim.Native.Nat.{ℕ, _+_, _-_, _*_, _/_, _^_, _≤_, _<_}
-use native.Mathlib.Nat.{le-trans, le-of-eq, lt-of-lt-of-le, lt-of-le-of-lt, lt-of-not-le, not-le-of-lt, mul-one, mul-comm, mul-assoc, mul-right-comm, mul-div-cancel, mul-le-mul-right, eq-of-mul-eq-mul-right, zero-add}
+use native.Mathlib.Nat.{le-trans, le-of-eq, lt-of-lt-of-le, lt-of-le-of-lt, lt-of-not-le, not-le-of-lt, mul-one, mul-assoc, mul-right-comm, mul-div-cancel, mul-le-mul-right, eq-of-mul-eq-mul-right, zero-add}
 use native.Mathlib.Omega.{arith}
 use mathlib.Core.List.{List}
 use lib.ListN.{getD}
@@ -12,6 +12,7 @@ use lib.Pow.{pow-add, pow-pos, pow-mono, shl-lt}
 use lib.Ieee.{size}
 use lib.Ieee.Digits.{size-lt, size-reaches}
 use lib.Ieee.Positive.{first-pos}
+use Rattle.integers.proofs.Naturals.{pow-sum}
 use Rattle.limbs.specs.Limbs.{valueOf, ShiftedLeft}
 use Rattle.limbs.specs.Nearest.{isOdd, nearestBy}
 use Rattle.limbs.specs.Packed.{droppedDigits, significandOf, packed, unitsOf, mostScale, leadingDigits}
@@ -53,7 +54,7 @@ module _ (n w a b : ℕ) (e : n * 2 ^ b ≡ w * 2 ^ a) (lo : 2 ^ 159 ≤ w) (hi 
       (mul-right-comm n (2 ^ 107) (2 ^ b)
       ∙ ap (λ (x : ℕ). x * 2 ^ 107) e
       ∙ mul-assoc w (2 ^ a) (2 ^ 107)
-      ∙ ap (λ (x : ℕ). w * x) (mul-comm (2 ^ a) (2 ^ 107) ∙ sym (pow-add 2 107 a) ∙ ap (λ (x : ℕ). 2 ^ x) s ∙ pow-add 2 (droppedDigits n) b)
+      ∙ ap (λ (x : ℕ). w * x) (pow-sum a 107 (droppedDigits n + b) (omega arith) ∙ pow-add 2 (droppedDigits n) b)
       ∙ sym (mul-assoc w (2 ^ droppedDigits n) (2 ^ b))))
 
   pub scaled-normal : b ≤ 107 + a → packed n ≡ (107 + a - b) * 2 ^ 52 + nearestBy isOdd w (2 ^ 107)

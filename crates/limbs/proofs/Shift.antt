@@ -10,6 +10,7 @@ use mir.Syntax.{w64}
 use mir.Val.{Fits}
 use lib.Count.{leadingZeros, leading-top}
 use lib.Pow.{pow-add, pow-pos, pow-mono, shr-le, shr-lt, shl-lt, shl-shr, mod-pow-add}
+use Rattle.integers.proofs.Naturals.{pow-sum}
 use Rattle.limbs.specs.Limbs.{valueOf, Reduced, ShiftedLeft}
 
 -- ---- by whole limbs, those above being 0
@@ -38,7 +39,7 @@ last-pos a b c d p h k l = omega arith
 
 module _ (x d : ℕ) (h : d < 40) where
   whole : 2 ^ (40 - d) * 2 ^ d ≡ 2 ^ 40
-  whole = let e : 40 - d + d ≡ 40 = omega arith in sym (pow-add 2 (40 - d) d) ∙ ap (λ (k : ℕ). 2 ^ k) e
+  whole = pow-sum (40 - d) d 40 (omega arith)
 
   pub carried-out : x / 2 ^ (40 - d) ≡ x * 2 ^ d / 2 ^ 40
   carried-out = sym (mul-div-mul-right x (2 ^ (40 - d)) (pow-pos d)) ∙ ap (λ (y : ℕ). x * 2 ^ d / y) whole

@@ -9,7 +9,8 @@ use borrow.Author.Tests.{le-ltb}
 use lib.Pow.{pow-pos, pow-mono}
 use lib.Ieee.Nearest.{closest}
 use Rattle.level.specs.Cut.{restOf, roundedUp}
-use Rattle.level.proofs.Near.{closest-small, closest-whole, pow-sum}
+use Rattle.level.proofs.Near.{closest-small, closest-whole}
+use Rattle.integers.proofs.Naturals.{pow-sum}
 use Rattle.level.proofs.Given.{rest-half}
 use Rattle.level.proofs.Descent.{rest-whole, units-scale, direction-scale, rest-scale}
 use Rattle.level.proofs.lower_two.Statement.{statement}

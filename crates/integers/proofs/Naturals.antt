@@ -1,13 +1,21 @@
--- The order of two natural numbers. The idea: everything goes by the three orders that they can stand in (`order-cases`).
-use mathlib.Core.Path.{_≡_, refl, sym, ap}
-use mathlib.Core.Bool.{Bool, true, false, not}
+-- Natural numbers: a sum of exponents; and the order of two numbers, by the three cases that it has (`order-cases`).
+use mathlib.Core.Path.{_≡_, refl, sym, ap, _∙_}
+use mathlib.Core.Bool.{not}
 use mathlib.Core.Logic.{_⊎_, inl, inr}
-use Prim.Native.Nat.{ℕ, _*_, _≤_, _<_, compare, Ordering, Ordering·lt, Ordering·eq, Ordering·gt}
+use Prim.Native.Nat.{ℕ, _+_, _*_, _^_, _≤_, _<_, compare, Ordering, Ordering·lt, Ordering·eq, Ordering·gt}
 use native.Mathlib.Nat.{mul-lt-mul-of-pos-right}
+use native.Mathlib.Decide.{decLe}
 use native.Mathlib.Omega.{arith}
-use lib.Dec.{T, isLe, isEq, leb, leb→le, nleb→lt, eqb→eq}
+use lib.Dec.{T, isLe, isEq, leb→le, nleb→lt, eqb→eq}
 use lib.Arith.{lt-of-le-ne}
+use lib.Pow.{pow-add}
 use lib.Ieee.Fits.{eq→eqb}
+
+-- a sum of exponents
+pub pow-sum : (i j k : ℕ) → i + j ≡ k → 2 ^ i * 2 ^ j ≡ 2 ^ k
+pow-sum i j k e = sym (pow-add 2 i j) ∙ ap (λ (n : ℕ). 2 ^ n) e
+
+-- ---- the order of two numbers
 
 pub order-cases : (P : Ordering → Type 0) (a b : ℕ) → (a < b → P Ordering·lt) → (a ≡ b → P Ordering·eq) → (b < a → P Ordering·gt) → P (compare a b)
 order-cases P a b less same more = go (compare a b) (leb→le a b) (nleb→lt a b) (eqb→eq a b) eq→eqb
@@ -18,11 +26,7 @@ order-cases P a b less same more = go (compare a b) (leb→le a b) (nleb→lt a 
     go Ordering·gt h k e n = more (k tt)
 
 pub le-or-lt : (a b : ℕ) → (a ≤ b) ⊎ (b < a)
-le-or-lt a b = go (leb a b) (leb→le a b) (nleb→lt a b)
-  where
-    go : (t : Bool) → (T t → a ≤ b) → (T (not t) → b < a) → (a ≤ b) ⊎ (b < a)
-    go true l g = inl (l tt)
-    go false l g = inr (g tt)
+le-or-lt a b = elim (decLe a b) [ yes h ↦ inl h | no h ↦ inr (omega arith) ]
 
 pub order-lt : (a b : ℕ) → a < b → compare a b ≡ Ordering·lt
 order-lt a b h = order-cases (λ (o : Ordering). o ≡ Ordering·lt) a b (λ _. refl) (λ e. absurd (omega arith)) (λ l. absurd (omega arith))
