@@ -1,4 +1,5 @@
--- Totals of rows, and what three levels of them hold at any top that is at least every row's: the exact sum, or near it.
+-- Totals of rows, and what the levels from a top down hold of them, the top being at least every row's: the exact sum, or near it. The idea: sums over levels
+-- are added row by row (`levelSum-add`), so that all rows together lose at most what each of them loses.
 use mathlib.Core.Path.{_≡_, refl, sym, ap, ap₂, _∙_}
 use mathlib.Core.Bool.{Bool, true, false, cond}
 use mathlib.Core.List.{List, [], _∷_, _++_}
