@@ -18,7 +18,7 @@ use Rattle.record.specs.Section.{Section, kept, sections, find}
 use Rattle.record.proofs.Found.{find-key}
 use Rattle.finish.specs.declared.FinishedLine.{FinishedLine}
 use Rattle.finish.specs.Finish.{sumFor, figureFor, lineFor, sumGrounds, figureGrounds, finishedBy, finishing, sumOutcome, figureOutcome, lineOutcome}
-use Rattle.finish.proofs.Outcomes.{section-given, finished-not, sum-given, line-given, bits-back}
+use Rattle.finish.proofs.Outcomes.{section-given, finished-not, sum-given, line-given, double-back}
 use Rattle.exports.specs.Calls.{returnsCount, returnsZero, writes, doubleBits}
 use Rattle.history.specs.Calls.{Call}
 use Rattle.history.specs.Run.{State, Answer, setTable, after, step, groupsAre, sumIs, figureIs, lineIs, askTable, answer}
@@ -68,7 +68,7 @@ module _ (s : List ℕ) (g k : ℕ) where
   sum-back : (x : Float) → sumOutcome s g k ≡ accepted x → ofBits binary64 (doubleBits x) ≡ x
   sum-back x e =
       let t = section-given sumGrounds sumFor s g k x (sym e) in
-      subst (λ (y : Float). ofBits binary64 (doubleBits y) ≡ y) (sum-given (t .0) x (t .1) .is) (bits-back (kept (t .0)))
+      subst (λ (y : Float). ofBits binary64 (doubleBits y) ≡ y) (sum-given (t .0) x (t .1) .is) (double-back (kept (t .0)))
 
   sum-read : {z : ℤ} {b : ℕ} → z ≡ returnsZero (sumOutcome s g k) → b ≡ writes 0 doubleBits (sumOutcome s g k) → valuesSaid (ofBits binary64 b) z ≡ sumOutcome s g k
   sum-read q w =
@@ -85,7 +85,7 @@ module _ (s : List ℕ) (g k : ℕ) where
       let t = section-given figureGrounds lineFor s g k l (sym e) in
       let is = line-given (t .0) l (t .1) .is in (
         sym (find-key k (sections s g) (t .2)) ∙ ap (λ (x : FinishedLine). x .key) is,
-        subst (λ (y : Float). ofBits binary64 (doubleBits y) ≡ y) (ap (λ (x : FinishedLine). x .sum) is) (bits-back (kept (t .0))),
+        subst (λ (y : Float). ofBits binary64 (doubleBits y) ≡ y) (ap (λ (x : FinishedLine). x .sum) is) (double-back (kept (t .0))),
       )
 
   line-read : {z f : ℤ} {n b : ℕ} → z ≡ returnsZero (lineOutcome s g k) → n ≡ writes 0 (λ (l : FinishedLine). l .count) (lineOutcome s g k)

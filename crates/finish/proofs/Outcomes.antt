@@ -133,9 +133,9 @@ pub finite-line : (l : FinishedLine) (s : List ℕ) (g k : ℕ) → accepted l �
 finite-line l s g k e = let t = section-given figureGrounds lineFor s g k l e in line-given (t .0) l (t .1) .finite-sum
 
 -- its bits are read back as the float itself
-pub bits-back : (k : ℤ) → ofBits binary64 (toBits binary64 (nearestDouble k)) ≡ nearestDouble k
+pub double-back : (k : ℤ) → ofBits binary64 (toBits binary64 (nearestDouble k)) ≡ nearestDouble k
 unfolding nearestDouble
-bits-back k = ofBits-toBits binary64 (nearestDouble k) (round-fits binary64 (not (nonNeg k)) (natAbs k) (2 ^ 1074))
+double-back k = ofBits-toBits binary64 (nearestDouble k) (round-fits binary64 (not (nonNeg k)) (natAbs k) (2 ^ 1074))
 
 -- ---- the line of a figure
 
