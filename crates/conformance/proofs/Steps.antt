@@ -4,11 +4,11 @@ use Prim.Native.Nat.{ℕ, zero, suc}
 use mathlib.Core.Path.{_≡_, refl, sym, ap, ap₂, subst, _∙_}
 use mathlib.Core.Bool.{Bool, true, false, cond}
 use mathlib.Core.List.{List}
-use native.Mathlib.Omega.{arith}
 use lib.IntN.{ℤ, pos}
 use lib.Ieee.{Float, binary64, ofBits}
 use lib.ListN.{length}
 use denote.Ref.{now}
+use Rattle.lists.proofs.Booleans.{never}
 use Rattle.refusal.specs.Outcome.{Outcome, accepted, refused, Ground, isRefusal, isGround}
 use Rattle.refusal.proofs.Outcomes.{not-given}
 use Rattle.columns.specs.declared.Kind.the-variants.{Double}
@@ -29,7 +29,7 @@ use Rattle.conformance.specs.Called.{countSaid, valuesSaid, Called, by-a
 count-said : (o : Outcome ℕ) → isRefusal 0 o ≡ false → countSaid (returnsCount o) ≡ o
 unfolding isRefusal
 count-said (accepted n) e = refl
-count-said (refused zero) e = absurd (let z : _≡_ {A = ℕ} 0 1 = cc in omega arith)
+count-said (refused zero) e = never (cc)
 count-said (refused (suc n)) e = refl
 
 -- from a number z that a call returned for o
@@ -43,7 +43,7 @@ given-out {A} o y n f q = ap (valuesSaid y) q ∙ by o n f
   where
     by : (o : Outcome A) → isRefusal 0 o ≡ false → ((x : A) → o ≡ accepted x → y ≡ x) → valuesSaid y (returnsZero o) ≡ o
     by (accepted x) n f = ap accepted (f x refl)
-    by (refused zero) n f = absurd (let z : _≡_ {A = ℕ} 0 1 = cc in omega arith)
+    by (refused zero) n f = never (cc)
     by (refused (suc m)) n f = refl
 
 -- no call is refused with 0

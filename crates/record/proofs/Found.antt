@@ -9,6 +9,7 @@ use native.Mathlib.Omega.{arith}
 use borrow.Author.Tests.{eq-eqb, ne-eqb, eqb-true, eqb-false}
 use lib.Dec.{T, eqb}
 use lib.ListN.{length, getD}
+use Rattle.lists.proofs.Booleans.{never}
 use Rattle.codec.proofs.Cells.{length-cells}
 use Rattle.record.specs.declared.Record.{Record}
 use Rattle.record.specs.declared.Place.the-variants.{Index, Gap}
@@ -35,7 +36,7 @@ find-none k [] e = refl
 find-none k (r ∷ rs) e = by (eqb (r .key) k) refl e (find-none k rs)
   where
     by : (b : Bool) → eqb (r .key) k ≡ b → (b || has k (recordKeys rs)) ≡ false → (has k (recordKeys rs) ≡ false → find k (map meaning rs) ≡ none) → cond (eqb k (r .key)) (some (meaning r)) (find k (map meaning rs)) ≡ none
-    by true q f ih = let z : _≡_ {A = ℕ} 0 1 = cc in absurd (lt-irrefl 0 (omega arith))
+    by true q f ih = never (cc)
     by false q f ih = rw (ne-eqb k (r .key) (λ g. eqb-false (r .key) k q (sym g))) (ih f)
 
 -- each record of a sound table is sound
@@ -65,7 +66,7 @@ module _ (s : List ℕ) (g k i : ℕ) (h : T (sound s g)) where
 -- a section that is found has the number that was looked for
 pub find-key : (k : ℕ) (ts : List Section) {t : Section} → find k ts ≡ some t → t .key ≡ k
 unfolding find
-find-key k [] e = let z : _≡_ {A = ℕ} 0 1 = cc in absurd (lt-irrefl 0 (omega arith))
+find-key k [] e = never (cc)
 find-key k (u ∷ ts) {t} e = by (eqb k (u .key)) (eqb-true k (u .key)) (find-key k ts) e
   where
     by : (b : Bool) → (b ≡ true → k ≡ u .key) → (find k ts ≡ some t → t .key ≡ k) → cond b (some u) (find k ts) ≡ some t → t .key ≡ k
