@@ -174,3 +174,18 @@ move-more s j e d h fits =
     let n : e - j ≡ suc (e - suc j) = omega arith in
     let p : suc j + d ≡ suc (j + d) = omega arith in
     rw (n, drop-cons s j 0 (omega arith), getD-sets s X (suc j + d) j 0 (omega arith), set-sets s X (suc j + d) (j + d) (getD s j 0) (omega arith), p)
+
+-- ---- what follows bytes put in place
+
+-- from where they start
+pub drop-stored : (s xs : List ℕ) (i : ℕ) → i + length xs ≤ length s → drop i (sets s i xs) ≡ xs ++ drop (i + length xs) s
+drop-stored s xs i h =
+    ap (drop i) (sets-eq xs s i h ∙ append-assoc (take i s) xs (drop (i + length xs) s))
+    ∙ drop-at (take i s) (xs ++ drop (i + length xs) s) i (length-take-le i s (omega arith))
+
+-- from where they end, or later, where they were put at the front
+pub drop-past : (xs s : List ℕ) (a b : ℕ) → length xs ≡ b → b ≤ a → drop a (xs ++ drop b s) ≡ drop a s
+drop-past xs s a b h l =
+    let p : a ≡ length xs + (a - b) = omega arith in
+    let q : b + (a - b) ≡ a = omega arith in
+    ap (λ (n : ℕ). drop n (xs ++ drop b s)) p ∙ drop-append-add xs (drop b s) (a - b) ∙ drop-drop (a - b) b s ∙ ap (λ (n : ℕ). drop n s) q

@@ -19,19 +19,19 @@ worked s (c ∷ cs) (x ∷ xs) s″ (next {s′ = s′} p w) =
       ap (λ (t : State). stateAfter t cs) (q .1) ∙ r .1,
     )
 
-tables : (h : History) (xs : List Answer) (s : State) → CarriedOut h xs s → (i : ℕ) → s .tables i ≡ table h i
-tables h xs s w i = ap (λ (t : State). t .tables i) (sym (worked (empty h) (h .calls) xs s w .1))
+table-is : (h : History) (xs : List Answer) (s : State) → CarriedOut h xs s → (i : ℕ) → s .tables i ≡ table h i
+table-is h xs s w i = ap (λ (t : State). t .tables i) (sym (worked (empty h) (h .calls) xs s w .1))
 
 pub worked-is : WorkedIs
 worked-is = record {
   called-is = steps;
   as-listed = worked;
   answers-are = λ h xs s w. sym (worked (empty h) (h .calls) xs s w .0) ∙ demand3 .answered h;
-  tables-are = tables;
+  tables-are = table-is;
   same-tables = λ h h′ xs xs′ s s′ w w′ i j e. (
-    ap (λ (t : Store). t .groups) (tables h xs s w i) ∙ demand3 .same-groups h h′ i j e ∙ sym (ap (λ (t : Store). t .groups) (tables h′ xs′ s′ w′ j)),
-    ap used (tables h xs s w i) ∙ demand3 .same-bytes h h′ i j e ∙ sym (ap used (tables h′ xs′ s′ w′ j)),
-    λ q. ap (λ (t : Store). askTable t q) (tables h xs s w i) ∙ demand3 .same-answer h h′ i j q e ∙ sym (ap (λ (t : Store). askTable t q) (tables h′ xs′ s′ w′ j)),
+    ap (λ (t : Store). t .groups) (table-is h xs s w i) ∙ demand3 .same-groups h h′ i j e ∙ sym (ap (λ (t : Store). t .groups) (table-is h′ xs′ s′ w′ j)),
+    ap used (table-is h xs s w i) ∙ demand3 .same-bytes h h′ i j e ∙ sym (ap used (table-is h′ xs′ s′ w′ j)),
+    λ q. ap (λ (t : Store). askTable t q) (table-is h xs s w i) ∙ demand3 .same-answer h h′ i j q e ∙ sym (ap (λ (t : Store). askTable t q) (table-is h′ xs′ s′ w′ j)),
   );
   work-cleared = λ κs a z e l. l .1 .1;
   girth-work-cleared = λ κs a z e l. l .1 .1;

@@ -113,7 +113,7 @@ kept-size r v P Q s l h p q d =
     rw (total-is x (total-range (r .count) x (g .high) l), total-is y (total-range (r .count) y (g .middle) l), total-is z (total-range (r .count) z (g .low) l))
     (stacked-is (2 ^ 40) totalRaise (raisedTotal x) (raisedTotal y) (raisedTotal z) ∙ ap₂ _⊝_ (sym p) (sym q) ∙ difference-is s v P Q d) in
     let up : kept (meaning r) *ℤ pos (2 ^ 80) ≡ signed s (v * unit (r .top)) =
-    kept-up (r .top) (totalOf x) (totalOf y) (totalOf z) (λ o. empty-total y (g .second o)) (λ o. empty-total z (g .third o))
+    kept-up (r .top) (totalOf x) (totalOf y) (totalOf z) (λ o. empty-total y (g .no-middle o)) (λ o. empty-total z (g .no-low o))
     ∙ ap (λ (m : ℤ). m *ℤ pos (unit (r .top))) whole ∙ signed-mul s v (unit (r .top)) in (
       sym (natAbs-scale (kept (meaning r)) (2 ^ 80)) ∙ ap natAbs up ∙ natAbs-signed s (v * unit (r .top)),
       sign-is (kept (meaning r)) s (2 ^ 80) (v * unit (r .top)) (pow-pos 80) (λ e. mul-pos (difference-some s v P Q d e) (pow-pos (40 * r .top))) up,

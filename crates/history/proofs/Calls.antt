@@ -50,7 +50,7 @@ module _ (initial : ℕ → List ℕ) where
     answer-is (add i kind ks vs b workLen) = ap groupsAre (add-outcome (initial i) (s .tables i) (l .rows i) (a .tables i) kind ks vs workLen)
     answer-is (merge i j d) =
         ap groupsAre (merge-outcome (initial i) (s .tables i) (l .rows i) (a .tables i) (initial j) (s .tables j) (l .rows j) (a .tables j))
-    answer-is (ask i q) = ask-is (s .tables i) (l .rows i) (sound-is (initial i) (s .tables i) (l .rows i) (a .tables i)) (a .tables i .holds) q
+    answer-is (ask i q) = ask-is (s .tables i) (l .rows i) (sound-is (initial i) (s .tables i) (l .rows i) (a .tables i)) (a .tables i .has-sections) q
 
   pub agrees-after : (s : State) (l : Ledger) → Agrees initial s l → (cs : List Call) → Agrees initial (stateAfter s cs) (ledgerAfter lens l cs)
   unfolding stateAfter ledgerAfter

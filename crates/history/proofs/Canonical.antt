@@ -18,18 +18,18 @@ use Rattle.history.specs.Canonical.{sectionOf, sectionIf, canonical}
 use Rattle.history.proofs.Sections.{section-key, row-section, join-sections}
 
 -- ---- the rows of a section
-pub values-is : (k : ℕ) (r : Row) (rs : List Row) → k ≡ r .key → sectionBits k (r ∷ rs) ≡ r .bits ∷ sectionBits k rs
+pub sectionBits-is : (k : ℕ) (r : Row) (rs : List Row) → k ≡ r .key → sectionBits k (r ∷ rs) ≡ r .bits ∷ sectionBits k rs
 unfolding sectionBits
-values-is k r rs e = rw (eq-eqb k (r .key) e) refl
+sectionBits-is k r rs e = rw (eq-eqb k (r .key) e) refl
 
-pub values-not : (k : ℕ) (r : Row) (rs : List Row) → (k ≡ r .key → ⊥) → sectionBits k (r ∷ rs) ≡ sectionBits k rs
+pub sectionBits-not : (k : ℕ) (r : Row) (rs : List Row) → (k ≡ r .key → ⊥) → sectionBits k (r ∷ rs) ≡ sectionBits k rs
 unfolding sectionBits
-values-not k r rs e = rw (ne-eqb k (r .key) e)
+sectionBits-not k r rs e = rw (ne-eqb k (r .key) e)
 
-pub values-append : (k : ℕ) (xs ys : List Row) → sectionBits k (xs ++ ys) ≡ sectionBits k xs ++ sectionBits k ys
+pub sectionBits-append : (k : ℕ) (xs ys : List Row) → sectionBits k (xs ++ ys) ≡ sectionBits k xs ++ sectionBits k ys
 unfolding sectionBits
-values-append k [] ys = refl
-values-append k (x ∷ xs) ys = go (values-append k xs ys) (eqb k (x .key))
+sectionBits-append k [] ys = refl
+sectionBits-append k (x ∷ xs) ys = go (sectionBits-append k xs ys) (eqb k (x .key))
   where
     go : sectionBits k (xs ++ ys) ≡ sectionBits k xs ++ sectionBits k ys → (b : Bool)
         → cond b (x .bits ∷ sectionBits k (xs ++ ys)) (sectionBits k (xs ++ ys)) ≡ cond b (x .bits ∷ sectionBits k xs) (sectionBits k xs) ++ sectionBits k ys
@@ -130,22 +130,22 @@ is-canonical ts rows a e = find-ext ts (canonical rows) a (canonical-rising rows
 only-row : (r : Row) (l : ℕ) → Dec (l ≡ r .key) → only l (sectionOf (r .key) (r .bits ∷ [])) ≡ sectionIf l (sectionBits l (r ∷ []))
 unfolding sectionIf sectionBits
 only-row r l (yes e) =
-    only-is l _ (e ∙ sym (section-key (r .key) (topOf (r .bits ∷ [])) (r .bits ∷ []))) ∙ rw (values-is l r [] e) (ap (λ (k : ℕ). some (sectionOf k (r .bits ∷ []))) (sym e))
-only-row r l (no e) = only-not l _ (λ q. e (q ∙ section-key (r .key) (topOf (r .bits ∷ [])) (r .bits ∷ []))) ∙ rw (values-not l r [] e)
+    only-is l _ (e ∙ sym (section-key (r .key) (topOf (r .bits ∷ [])) (r .bits ∷ []))) ∙ rw (sectionBits-is l r [] e) (ap (λ (k : ℕ). some (sectionOf k (r .bits ∷ []))) (sym e))
+only-row r l (no e) = only-not l _ (λ q. e (q ∙ section-key (r .key) (topOf (r .bits ∷ [])) (r .bits ∷ []))) ∙ rw (sectionBits-not l r [] e)
 
-absorb-row : (rows : List Row) (r : Row) → absorb (ofRow r) (canonical rows) ≡ canonical (rows ++ (r ∷ []))
-absorb-row rows r =
+absorb-canonical : (rows : List Row) (r : Row) → absorb (ofRow r) (canonical rows) ≡ canonical (rows ++ (r ∷ []))
+absorb-canonical rows r =
     is-canonical _ (rows ++ (r ∷ [])) (absorb-rising _ (canonical rows) (canonical-rising rows))
     (λ l. find-absorb (ofRow r) l (canonical rows) (canonical-rising rows)
     ∙ ap₂ join (find-canonical l rows) (ap (only l) (row-section r) ∙ only-row r l (ℕ-discrete l (r .key)))
     ∙ join-sections l (sectionBits l rows) (sectionBits l (r ∷ []))
-    ∙ ap (sectionIf l) (sym (values-append l rows (r ∷ []))))
+    ∙ ap (sectionIf l) (sym (sectionBits-append l rows (r ∷ []))))
 
 pub added-canonical : (rows rs : List Row) → added (canonical rows) rs ≡ canonical (rows ++ rs)
 unfolding added
 added-canonical rows [] = rw append-nil
 added-canonical rows (r ∷ rs) =
-    rw (absorb-row rows r) (added-canonical (rows ++ (r ∷ [])) rs ∙ ap canonical (append-assoc rows (r ∷ []) rs))
+    rw (absorb-canonical rows r) (added-canonical (rows ++ (r ∷ [])) rs ∙ ap canonical (append-assoc rows (r ∷ []) rs))
 
 pub merged-canonical : (xs ys : List Row) → merged (canonical xs) (canonical ys) ≡ canonical (xs ++ ys)
 merged-canonical xs ys =
@@ -153,4 +153,4 @@ merged-canonical xs ys =
     (λ l. find-merged (canonical xs) (canonical ys) l (canonical-rising xs) (canonical-rising ys)
     ∙ ap₂ join (find-canonical l xs) (find-canonical l ys)
     ∙ join-sections l (sectionBits l xs) (sectionBits l ys)
-    ∙ ap (sectionIf l) (sym (values-append l xs ys)))
+    ∙ ap (sectionIf l) (sym (sectionBits-append l xs ys)))

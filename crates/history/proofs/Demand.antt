@@ -56,15 +56,15 @@ module _ (h : History) where
         ∙ take-at (sectionBytes (canonical (rows h i))) (drop n (h .initial i)) n (length-sectionBytes (canonical (rows h i)))
 
     found-is : (k : ℕ) → find k (sectionsIn (table h i)) ≡ sectionIf k (sectionBits k (rows h i))
-    found-is k = ap (find k) (holds-is .holds) ∙ find-canonical k (rows h i)
+    found-is k = ap (find k) (holds-is .has-sections) ∙ find-canonical k (rows h i)
 
-    answer-is : (q : Question) → askTable (table h i) q ≡ askRows (rows h i) q
-    answer-is = ask-is (table h i) (rows h i) table-sound (holds-is .holds)
+    asked-is : (q : Question) → askTable (table h i) q ≡ askRows (rows h i) q
+    asked-is = ask-is (table h i) (rows h i) table-sound (holds-is .has-sections)
 
 -- what a table's rows decide is the same in tables with the same rows
-alike : {A : Type 0} (F : Store → A) (G : List Row → A) → ((xs ys : List Row) → SameRows xs ys → G xs ≡ G ys) → ((h : History) (i : ℕ) → F (table h i) ≡ G (rows h i))
+same-by-rows : {A : Type 0} (F : Store → A) (G : List Row → A) → ((xs ys : List Row) → SameRows xs ys → G xs ≡ G ys) → ((h : History) (i : ℕ) → F (table h i) ≡ G (rows h i))
     → (h h′ : History) (i j : ℕ) → SameRows (rows h i) (rows h′ j) → F (table h i) ≡ F (table h′ j)
-alike F G same is h h′ i j e = is h i ∙ same (rows h i) (rows h′ j) e ∙ sym (is h′ j)
+same-by-rows F G same is h h′ i j e = is h i ∙ same (rows h i) (rows h′ j) e ∙ sym (is h′ j)
 
 pub demand3 : Demand3
 demand3 = record {
@@ -73,10 +73,10 @@ demand3 = record {
   answered = answered-is;
   never-7 = λ h. ap (anyOf (refuses 7)) (answered-is h) ∙ answers-not-7 (lengths h) noRows (h .calls);
   same-groups =
-      alike (λ t. t .groups) (λ xs. length (canonical xs)) (λ xs ys e. ap length (canonical-same xs ys e)) (λ h i. holds-is h i .groups);
-  same-bytes = alike used (λ xs. sectionBytes (canonical xs)) (λ xs ys e. ap sectionBytes (canonical-same xs ys e)) used-are;
-  same-answer = λ h h′ i j q. alike (λ t. askTable t q) (λ xs. askRows xs q) (ask-same q) (λ h i. answer-is h i q) h h′ i j;
-  fixed-answer = answer-is;
+      same-by-rows (λ t. t .groups) (λ xs. length (canonical xs)) (λ xs ys e. ap length (canonical-same xs ys e)) (λ h i. holds-is h i .groups);
+  same-bytes = same-by-rows used (λ xs. sectionBytes (canonical xs)) (λ xs ys e. ap sectionBytes (canonical-same xs ys e)) used-are;
+  same-answer = λ h h′ i j q. same-by-rows (λ t. askTable t q) (λ xs. askRows xs q) (ask-same q) (λ h i. asked-is h i q) h h′ i j;
+  fixed-answer = asked-is;
   absent = λ h i k e. found-is h i k ∙ absent-is k (sectionBits k (rows h i)) e;
   present = λ h i k l. (
     sectionOf k (sectionBits k (rows h i)),

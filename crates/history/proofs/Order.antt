@@ -13,7 +13,7 @@ use Rattle.table.proofs.Lookup.{join, join-assoc}
 use Rattle.history.specs.Rows.{equalRows, occurs, Permutation, unmoved, prepended, swapped, chained, SameRows, sectionBits}
 use Rattle.history.specs.Canonical.{sectionIf, canonical}
 use Rattle.history.proofs.Sections.{join-sections, join-comm}
-use Rattle.history.proofs.Canonical.{values-append, is-canonical, find-canonical, canonical-rising}
+use Rattle.history.proofs.Canonical.{sectionBits-append, is-canonical, find-canonical, canonical-rising}
 
 -- ---- equal occurrences make a permutation
 pub decRow : (r s : Row) → Dec (r ≡ s)
@@ -59,10 +59,10 @@ pull x (y ∷ ys) h = go (pull x ys) (decRow x y)
     go ih (yes e) = (ys, subst (λ (z : Row). Permutation (z ∷ ys) (y ∷ ys)) (sym e) unmoved)
     go ih (no e) = let p = ih (omega (arith, occurs-not x y ys e)) in (y ∷ p .0, chained swapped (prepended (p .1)))
 
--- one row less on chained sides
-less-one : (x r : Row) (xs ys zs : List Row) → occurs r (x ∷ xs) ≡ occurs r ys → Permutation (x ∷ zs) ys → occurs r xs ≡ occurs r zs
+-- one row less on both sides
+occurs-less : (x r : Row) (xs ys zs : List Row) → occurs r (x ∷ xs) ≡ occurs r ys → Permutation (x ∷ zs) ys → occurs r xs ≡ occurs r zs
 unfolding occurs
-less-one x r xs ys zs h p = omega (arith, occurs-permuted r p)
+occurs-less x r xs ys zs h p = omega (arith, occurs-permuted r p)
 
 pub permuted : (xs ys : List Row) → ((r : Row) → occurs r xs ≡ occurs r ys) → Permutation xs ys
 unfolding occurs
@@ -71,27 +71,27 @@ permuted [] (y ∷ ys) h = absurd (omega (arith, h y, occurs-is y y ys refl))
 permuted (x ∷ xs) ys h = go (permuted xs) (pull x ys (omega (arith, h x, occurs-is x x xs refl)))
   where
     go : ((zs : List Row) → ((r : Row) → occurs r xs ≡ occurs r zs) → Permutation xs zs) → (zs : List Row) × Permutation (x ∷ zs) ys → Permutation (x ∷ xs) ys
-    go ih p = chained (prepended (ih (p .0) (λ r. less-one x r xs ys (p .0) (h r) (p .1)))) (p .1)
+    go ih p = chained (prepended (ih (p .0) (λ r. occurs-less x r xs ys (p .0) (h r) (p .1)))) (p .1)
 
 -- ---- a permutation keeps each section
 module _ (k : ℕ) where
   -- the section of one row, where it has the number k
-  abbrev one : Row → Option Section
-  one x = sectionIf k (sectionBits k (x ∷ []))
+  abbrev section-one : Row → Option Section
+  section-one x = sectionIf k (sectionBits k (x ∷ []))
 
-  cons : (x : Row) (xs : List Row) → sectionIf k (sectionBits k (x ∷ xs)) ≡ join (one x) (sectionIf k (sectionBits k xs))
-  cons x xs = ap (sectionIf k) (values-append k (x ∷ []) xs) ∙ sym (join-sections k (sectionBits k (x ∷ [])) (sectionBits k xs))
+  section-cons : (x : Row) (xs : List Row) → sectionIf k (sectionBits k (x ∷ xs)) ≡ join (section-one x) (sectionIf k (sectionBits k xs))
+  section-cons x xs = ap (sectionIf k) (sectionBits-append k (x ∷ []) xs) ∙ sym (join-sections k (sectionBits k (x ∷ [])) (sectionBits k xs))
 
-  two : (x y : Row) (xs : List Row) → sectionIf k (sectionBits k (x ∷ y ∷ xs)) ≡ join (join (one x) (one y)) (sectionIf k (sectionBits k xs))
-  two x y xs = cons x (y ∷ xs) ∙ ap (join (one x)) (cons y xs) ∙ sym (join-assoc (one x) (one y) (sectionIf k (sectionBits k xs)))
+  section-two : (x y : Row) (xs : List Row) → sectionIf k (sectionBits k (x ∷ y ∷ xs)) ≡ join (join (section-one x) (section-one y)) (sectionIf k (sectionBits k xs))
+  section-two x y xs = section-cons x (y ∷ xs) ∙ ap (join (section-one x)) (section-cons y xs) ∙ sym (join-assoc (section-one x) (section-one y) (sectionIf k (sectionBits k xs)))
 
   section-permuted : {xs ys : List Row} → Permutation xs ys → sectionIf k (sectionBits k xs) ≡ sectionIf k (sectionBits k ys)
   section-permuted unmoved = refl
-  section-permuted (prepended {x = x} {xs = xs} {ys = ys} h) = cons x xs ∙ ap (join (one x)) (section-permuted h) ∙ sym (cons x ys)
+  section-permuted (prepended {x = x} {xs = xs} {ys = ys} h) = section-cons x xs ∙ ap (join (section-one x)) (section-permuted h) ∙ sym (section-cons x ys)
   section-permuted (swapped {x = x} {y = y} {xs = xs}) =
-      two x y xs
+      section-two x y xs
       ∙ ap (λ (o : Option Section). join o (sectionIf k (sectionBits k xs))) (join-comm k (sectionBits k (x ∷ [])) (sectionBits k (y ∷ [])))
-      ∙ sym (two y x xs)
+      ∙ sym (section-two y x xs)
   section-permuted (chained h l) = section-permuted h ∙ section-permuted l
 
 pub section-same : (k : ℕ) (xs ys : List Row) → SameRows xs ys → sectionIf k (sectionBits k xs) ≡ sectionIf k (sectionBits k ys)

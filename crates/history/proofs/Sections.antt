@@ -11,7 +11,7 @@ use Rattle.level.specs.Level.{top, contribution, topOf, total}
 use Rattle.level.proofs.Section.{topOf-append, total-append, total-above}
 use Rattle.columns.specs.Columns.{Row}
 use Rattle.table.specs.Combine.{ofRow, levelOf, combine}
-use Rattle.table.proofs.Combine.{levelOf-at, sectionAt-cong, combine-at, combine-comm}
+use Rattle.table.proofs.Combine.{levelOf-at, sectionAt-cong, sectionAt-combine, combine-comm}
 use Rattle.table.proofs.Lookup.{join, join-none}
 use Rattle.history.specs.Canonical.{sectionAtTop, sectionOf, sectionIf}
 
@@ -33,7 +33,7 @@ pub combine-sections : (k t u : ℕ) (bs cs : List ℕ) → topOf bs ≤ t → t
     → combine (sectionAtTop k t bs) (sectionAtTop k u cs) ≡ sectionAtTop k (max t u) (bs ++ cs)
 unfolding sectionAtTop
 combine-sections k t u bs cs h l =
-    combine-at k (length bs) (length cs) t u (total bs) (total cs) (λ j q. total-above bs j (omega arith)) (λ j q. total-above cs j (omega arith))
+    sectionAt-combine k (length bs) (length cs) t u (total bs) (total cs) (λ j q. total-above bs j (omega arith)) (λ j q. total-above cs j (omega arith))
     ∙ sectionAt-cong k (length bs + length cs) (max t u) (λ j. total bs j +ℤ total cs j) (total (bs ++ cs)) (λ j q. sym (total-append bs cs j))
     ∙ rw (length-append bs cs)
 

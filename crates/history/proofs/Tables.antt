@@ -22,10 +22,10 @@ use Rattle.table.specs.Combine.{added, merged}
 use Rattle.table.specs.Calls.{overflows, leaves, addSections, columnGrounds, addGrounds, addOutcome, mergeSections, mergeGrounds, mergeOutcome}
 use Rattle.lists.specs.Lists.{anyOf}
 use Rattle.lists.proofs.Booleans.{both-true}
-use Rattle.lists.proofs.All.{any-map}
+use Rattle.lists.proofs.Any.{any-map}
 use Rattle.table.proofs.Lookup.{merged-length}
 use Rattle.table.proofs.Bytes.{written-over}
-use Rattle.table.proofs.Accepted.{ProperTable, proper-none, Left, add-left, merge-left}
+use Rattle.table.proofs.Accepted.{ProperTable, proper-none, AcceptedTable, add-left, merge-left}
 use Rattle.history.specs.Rows.{sectionBits, sectionNumbers}
 use Rattle.history.specs.Canonical.{sectionAtTop, sectionOf, canonical}
 use Rattle.history.specs.Calls.{tooManyRows, tooManyKeys, addRowsGrounds, addRowsOutcome, mergeRowsGrounds, mergeRowsOutcome, extended}
@@ -33,9 +33,9 @@ use Rattle.history.specs.Run.{Store, after, afterAdd, afterMerge}
 use Rattle.history.proofs.Canonical.{added-canonical, merged-canonical}
 
 -- ---- 11 and 12 on the sections of rows
-pub few-canonical : (rows : List Row) → anyOf overflows (canonical rows) ≡ tooManyRows rows
+pub overflows-canonical : (rows : List Row) → anyOf overflows (canonical rows) ≡ tooManyRows rows
 unfolding tooManyRows canonical sectionAtTop
-few-canonical rows = any-map overflows (λ k. sectionOf k (sectionBits k rows)) (sectionNumbers rows)
+overflows-canonical rows = any-map overflows (λ k. sectionOf k (sectionBits k rows)) (sectionNumbers rows)
 
 pub length-canonical : (rows : List Row) → length (canonical rows) ≡ length (sectionNumbers rows)
 unfolding canonical
@@ -45,22 +45,22 @@ pub room-canonical : (len : ℕ) (rows : List Row) → ltb (capacity len) (lengt
 unfolding tooManyKeys
 room-canonical len rows = rw (length-canonical rows)
 
-longer : (rows new : List Row) → length (canonical rows) ≤ length (canonical (rows ++ new))
-longer rows new = subst (λ (ts : List Section). length (canonical rows) ≤ length ts) (merged-canonical rows new) (merged-length (canonical rows) (canonical new))
+canonical-longer : (rows new : List Row) → length (canonical rows) ≤ length (canonical (rows ++ new))
+canonical-longer rows new = subst (λ (ts : List Section). length (canonical rows) ≤ length ts) (merged-canonical rows new) (merged-length (canonical rows) (canonical new))
 
 -- ---- a table and its rows
 
 -- the table t, in a buffer that held the bytes `initial`, holds these rows
 pub record HoldsRows (initial : List ℕ) (t : Store) (rows : List Row) : Type 0 where
   pub table : ProperTable (t .buffer) (t .groups)
-  pub holds : sections (t .buffer) (t .groups) ≡ canonical rows
+  pub has-sections : sections (t .buffer) (t .groups) ≡ canonical rows
   pub groups : t .groups ≡ length (canonical rows)
   pub buffer : t .buffer ≡ written (canonical rows) initial
-  pub size : length (t .buffer) ≡ length initial
+  pub same-length : length (t .buffer) ≡ length initial
 
 pub holds-none : (initial : List ℕ) → HoldsRows initial (record { buffer = initial; groups = 0 }) []
 unfolding canonical sectionNumbers image cells
-holds-none initial = record { table = proper-none initial; holds = refl; groups = refl; buffer = refl; size = refl }
+holds-none initial = record { table = proper-none initial; has-sections = refl; groups = refl; buffer = refl; same-length = refl }
 
 pub are-bytes : (s : List ℕ) → areBytes s ≡ true → AreBytes s
 are-bytes [] e i = omega arith
@@ -73,16 +73,16 @@ module _ (initial : List ℕ) (t : Store) (rows : List Row) (h : HoldsRows initi
 
   -- a call that would give it the sections of its rows and of new ones: accepted it holds all of them, refused what it held
   after-holds : (new : List Row) (ts : List Section) → ts ≡ canonical (rows ++ new) → (o : Outcome ℕ)
-      → ((n : ℕ) → o ≡ accepted n → Left (t .buffer) ts (leaves o ts (t .buffer)) n)
+      → ((n : ℕ) → o ≡ accepted n → AcceptedTable (t .buffer) ts (leaves o ts (t .buffer)) n)
       → HoldsRows initial (after o (leaves o ts (t .buffer)) (t .groups)) (extended o rows new)
   after-holds new ts e (accepted n) f =
       let l = f n refl in
       record {
         table = l .table;
-        holds = l .holds ∙ e;
+        has-sections = l .has-sections ∙ e;
         groups = sym (l .groups) ∙ ap length e;
-        buffer = ap₂ written e (h .buffer) ∙ written-over (canonical rows) (canonical (rows ++ new)) initial (longer rows new);
-        size = l .size ∙ h .size;
+        buffer = ap₂ written e (h .buffer) ∙ written-over (canonical rows) (canonical (rows ++ new)) initial (canonical-longer rows new);
+        same-length = l .same-length ∙ h .same-length;
       }
   after-holds new ts e (refused n) f = h
 
@@ -92,10 +92,10 @@ module _ (initial : List ℕ) (t : Store) (rows : List Row) (h : HoldsRows initi
     add-outcome =
         rw (
           sound-is,
-          h .holds,
-          h .size,
+          h .has-sections,
+          h .same-length,
           added-canonical rows (rowsOf kind ks vs),
-          few-canonical (rows ++ rowsOf kind ks vs),
+          overflows-canonical (rows ++ rowsOf kind ks vs),
           room-canonical (length initial) (rows ++ rowsOf kind ks vs),
           length-canonical (rows ++ rowsOf kind ks vs),
         )
@@ -105,7 +105,7 @@ module _ (initial : List ℕ) (t : Store) (rows : List Row) (h : HoldsRows initi
     add-holds b =
         subst (λ (o : Outcome ℕ). HoldsRows initial (afterAdd kind t ks vs workLen) (extended o rows (rowsOf kind ks vs))) add-outcome
         (after-holds (rowsOf kind ks vs) (addSections kind (t .buffer) (t .groups) ks vs)
-        (ap (λ (ts : List Section). added ts (rowsOf kind ks vs)) (h .holds) ∙ added-canonical rows (rowsOf kind ks vs))
+        (ap (λ (ts : List Section). added ts (rowsOf kind ks vs)) (h .has-sections) ∙ added-canonical rows (rowsOf kind ks vs))
         (addOutcome kind (t .buffer) (t .groups) ks vs workLen)
         (λ n. add-left (t .buffer) (t .groups) (h .table) kind ks vs workLen (are-bytes ks (both-true (areBytes ks) (areBytes vs) b .0))))
 
@@ -116,11 +116,11 @@ module _ (initial : List ℕ) (t : Store) (rows : List Row) (h : HoldsRows initi
         rw (
           sound-is,
           is-true (sound (u .buffer) (u .groups)) (g .table .is-sound),
-          h .holds,
-          g .holds,
-          h .size,
+          h .has-sections,
+          g .has-sections,
+          h .same-length,
           merged-canonical rows others,
-          few-canonical (rows ++ others),
+          overflows-canonical (rows ++ others),
           room-canonical (length initial) (rows ++ others),
           length-canonical (rows ++ others),
         )
@@ -129,6 +129,6 @@ module _ (initial : List ℕ) (t : Store) (rows : List Row) (h : HoldsRows initi
     merge-holds =
         subst (λ (o : Outcome ℕ). HoldsRows initial (afterMerge t u) (extended o rows others)) merge-outcome
         (after-holds others (mergeSections (t .buffer) (t .groups) (u .buffer) (u .groups))
-        (ap₂ merged (h .holds) (g .holds) ∙ merged-canonical rows others)
+        (ap₂ merged (h .has-sections) (g .has-sections) ∙ merged-canonical rows others)
         (mergeOutcome (t .buffer) (t .groups) (u .buffer) (u .groups))
         (λ n. merge-left (t .buffer) (t .groups) (h .table) (u .buffer) (u .groups) (g .table)))

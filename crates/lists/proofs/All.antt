@@ -1,9 +1,8 @@
 -- What holds of every member of a list.
-use mathlib.Core.Path.{_≡_, refl, ap}
-use mathlib.Core.Bool.{Bool, false, _||_}
-use mathlib.Core.List.{List, [], _∷_, _++_, map}
-use Rattle.lists.specs.Lists.{anyOf}
-use Rattle.lists.proofs.Booleans.{both-false}
+use Prim.Native.Nat.{ℕ, zero, suc, _<_}
+use mathlib.Core.List.{List, [], _∷_, _++_}
+use native.Mathlib.Omega.{arith}
+use lib.ListN.{length, getD}
 
 abbrev pub All : {A : Type 0} → (A → Type 0) → List A → Type 0
 All P [] = Unit {0}
@@ -22,13 +21,7 @@ module _ {A : Type 0} (P : A → Type 0) where
   all-zip Q R f [] a b = tt
   all-zip Q R f (x ∷ xs) a b = (f x (a .0) (b .0), all-zip Q R f xs (a .1) (b .1))
 
--- none has p
-pub any-false : {A : Type 0} (p : A → Bool) (xs : List A) → anyOf p xs ≡ false → All (λ (x : A). p x ≡ false) xs
-unfolding anyOf
-any-false p [] e = tt
-any-false p (x ∷ xs) e = let w = both-false (p x) (anyOf p xs) e in (w .0, any-false p xs (w .1))
-
-pub any-map : {A B : Type 0} (p : B → Bool) (f : A → B) (xs : List A) → anyOf p (map f xs) ≡ anyOf (λ (x : A). p (f x)) xs
-unfolding anyOf
-any-map p f [] = refl
-any-map p f (x ∷ xs) = ap (λ (b : Bool). p (f x) || b) (any-map p f xs)
+  pub all-at : (xs : List A) (i : ℕ) (d : A) → i < length xs → All P xs → P (getD xs i d)
+  all-at [] i d h a = absurd (omega arith)
+  all-at (x ∷ xs) zero d h a = a .0
+  all-at (x ∷ xs) (suc i) d h a = all-at xs i d (omega arith) (a .1)

@@ -1,4 +1,6 @@
 -- Laws of truth values and of lists.
 pub mod Booleans
 pub mod All
+pub mod Any
+pub mod Places
 pub mod Scanning

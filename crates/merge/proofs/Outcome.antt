@@ -40,14 +40,14 @@ module _ (s : List ℕ) (g : ℕ) (s′ : List ℕ) (g′ : ℕ) where
         fitting h = rw (p, q, r, le-ltb (capacity (length s)) (length (mergeSections s g s′ g′)) h)
 
   -- what an accepted merge says
-  pub record Accepted (n : ℕ) : Type 0 where
+  pub record AcceptedMerge (n : ℕ) : Type 0 where
     pub sound₁ : T (sound s g)
     pub sound₂ : T (sound s′ g′)
-    pub few : anyOf overflows (mergeSections s g s′ g′) ≡ false
+    pub no-overflow : anyOf overflows (mergeSections s g s′ g′) ≡ false
     pub groups : n ≡ length (mergeSections s g s′ g′)
     pub room : length (mergeSections s g s′ g′) ≤ capacity (length s)
 
-  pub accepted-says : (n : ℕ) → accepted n ≡ mergeOutcome s g s′ g′ → Accepted n
+  pub accepted-says : (n : ℕ) → accepted n ≡ mergeOutcome s g s′ g′ → AcceptedMerge n
   unfolding mergeGrounds
   accepted-says n e =
       let us = mergeSections s g s′ g′ in
@@ -56,7 +56,7 @@ module _ (s : List ℕ) (g : ℕ) (s′ : List ℕ) (g′ : ℕ) where
       record {
         sound₁ = rw (not-false (sound s g) (both .0)) tt;
         sound₂ = rw (not-false (sound s′ g′) (both .1)) tt;
-        few = none 11;
+        no-overflow = none 11;
         groups = sym (accepted-value (mergeGrounds s g s′ g′) (length us) (sym e));
         room = ltb-false (capacity (length s)) (length us) (none 12);
       }

@@ -16,10 +16,11 @@ use Rattle.record.proofs.Sound.{sound-parts}
 use Rattle.table.specs.Combine.{combine, merged}
 use Rattle.table.specs.Calls.{overflows, mergeSections}
 use Rattle.lists.specs.Lists.{anyOf}
+use Rattle.lists.proofs.Any.{any-append}
 use Rattle.merge.specs.declared.Ends.{Ends}
 use Rattle.merge.specs.Steps.{keyAt, countAt, sectionIn, Within, lastSection, StepBack}
-use Rattle.merge.proofs.Merged.{Below, last-first, last-second, last-both}
-use Rattle.merge.proofs.State.{sections-more, prior, below-all, any-append}
+use Rattle.merge.proofs.Merged.{KeysBelow, last-of-first, last-of-second, last-of-both}
+use Rattle.merge.proofs.State.{sections-more, prior, below-all}
 
 sections-last : (s : List ℕ) (i : ℕ) → 0 < i → i * 64 ≤ length s → sections s i ≡ sections s (i - 1) ++ sectionIn s (i - 1) ∷ []
 sections-last s i l h =
@@ -46,8 +47,8 @@ module _ (s s′ : List ℕ) (i j : ℕ) (e : Ends) where
   count-both p q = ap (λ (x : Section). x .count) (of-both p q)
 
 module _ (s s′ : List ℕ) (i j : ℕ) (h : T (sound s i)) (h′ : T (sound s′ j)) (l : 0 < j) where
-  inside : (e : Ends) → e .i ≤ i → e .j ≤ j → e .i + e .j < i + j → Within s i s′ j e
-  inside e p q m = record { no-more₁ = p; no-more₂ = q; fewer = m; inside = sound-parts s i h .0; inside′ = sound-parts s′ j h′ .0 }
+  within-if : (e : Ends) → e .i ≤ i → e .j ≤ j → e .i + e .j < i + j → Within s i s′ j e
+  within-if e p q m = record { no-more₁ = p; no-more₂ = q; fewer = m; inside = sound-parts s i h .0; inside′ = sound-parts s′ j h′ .0 }
 
   cut₂ : sections s′ j ≡ sections s′ (j - 1) ++ sectionIn s′ (j - 1) ∷ []
   cut₂ = sections-last s′ j l (sound-parts s′ j h′ .0)
@@ -56,12 +57,12 @@ module _ (s s′ : List ℕ) (i j : ℕ) (h : T (sound s i)) (h′ : T (sound s�
   second-last k =
       let p = prior s′ j h′ l in
       record {
-        within = inside (record { i = i; j = j - 1 }) (le-refl i) (omega arith) (omega arith);
+        within = within-if (record { i = i; j = j - 1 }) (le-refl i) (omega arith) (omega arith);
         sound₁ = h;
         sound₂ = p .front;
         last-section =
             ap (merged (sections s i)) cut₂
-            ∙ last-second (sectionIn s′ (j - 1)) (sections s i) (sections s′ (j - 1)) (below-all s i (keyAt s′ (j - 1)) h k) (p .below)
+            ∙ last-of-second (sectionIn s′ (j - 1)) (sections s i) (sections s′ (j - 1)) (below-all s i (keyAt s′ (j - 1)) h k) (p .keys-below)
             ∙ ap (λ (x : Section). mergeSections s i s′ (j - 1) ++ x ∷ []) (sym (of-second s s′ i j (record { i = i; j = j - 1 }) refl));
       }
 
@@ -71,12 +72,12 @@ module _ (s s′ : List ℕ) (i j : ℕ) (h : T (sound s i)) (h′ : T (sound s�
 
     pub first-last : keyAt s′ (j - 1) < keyAt s (i - 1) → StepBack s i s′ j (record { i = i - 1; j = j })
     first-last k = record {
-      within = inside (record { i = i - 1; j = j }) (omega arith) (le-refl j) (omega arith);
+      within = within-if (record { i = i - 1; j = j }) (omega arith) (le-refl j) (omega arith);
       sound₁ = prior s i h m .front;
       sound₂ = h′;
       last-section =
           ap (λ (x : List Section). merged x (sections s′ j)) cut₁
-          ∙ last-first (sectionIn s (i - 1)) (sections s (i - 1)) (sections s′ j) (below-all s′ j (keyAt s (i - 1)) h′ (λ n. k))
+          ∙ last-of-first (sectionIn s (i - 1)) (sections s (i - 1)) (sections s′ j) (below-all s′ j (keyAt s (i - 1)) h′ (λ n. k))
           ∙ ap (λ (x : Section). mergeSections s (i - 1) s′ j ++ x ∷ []) (sym (of-first s s′ i j (record { i = i - 1; j = j }) (λ q. omega arith) refl));
     }
 
@@ -85,13 +86,13 @@ module _ (s s′ : List ℕ) (i j : ℕ) (h : T (sound s i)) (h′ : T (sound s�
         let p = prior s i h m in
         let q = prior s′ j h′ l in
         record {
-          within = inside (record { i = i - 1; j = j - 1 }) (omega arith) (omega arith) (omega arith);
+          within = within-if (record { i = i - 1; j = j - 1 }) (omega arith) (omega arith) (omega arith);
           sound₁ = p .front;
           sound₂ = q .front;
           last-section =
               ap₂ merged cut₁ cut₂
-              ∙ last-both (sectionIn s (i - 1)) (sectionIn s′ (j - 1)) (sections s (i - 1)) (sections s′ (j - 1)) (sym k)
-              (subst (λ (n : ℕ). Below n (sections s (i - 1))) k (p .below)) (q .below)
+              ∙ last-of-both (sectionIn s (i - 1)) (sectionIn s′ (j - 1)) (sections s (i - 1)) (sections s′ (j - 1)) (sym k)
+              (subst (λ (n : ℕ). KeysBelow n (sections s (i - 1))) k (p .keys-below)) (q .keys-below)
               ∙ ap (λ (x : Section). mergeSections s (i - 1) s′ (j - 1) ++ x ∷ []) (sym (of-both s s′ i j (record { i = i - 1; j = j - 1 }) (λ q. omega arith) (λ q. omega arith)));
         }
 

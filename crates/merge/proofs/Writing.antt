@@ -31,58 +31,58 @@ pub record Unwritten (s₀ : List ℕ) (g : ℕ) (s′ : List ℕ) (g′ : ℕ) 
   pub sound₂ : T (sound s′ j)
   pub groups : k ≡ length (mergeSections s i s′ j)
   pub fits : k * 64 ≤ length s
-  pub few : anyOf overflows (mergeSections s i s′ j) ≡ false
-  pub rest : written (mergeSections s i s′ j) s ≡ written (mergeSections s₀ g s′ g′) s₀
-  pub long : length s ≡ length s₀
-  pub bytes : AreBytes s
+  pub no-overflow : anyOf overflows (mergeSections s i s′ j) ≡ false
+  pub becomes : written (mergeSections s i s′ j) s ≡ written (mergeSections s₀ g s′ g′) s₀
+  pub same-length : length s ≡ length s₀
+  pub in-bytes : AreBytes s
 
 module _ {s₀ : List ℕ} {g : ℕ} {s′ : List ℕ} {g′ : ℕ} {s : List ℕ} {i j k : ℕ} (t : Unwritten s₀ g s′ g′ s i j k) where
-  pub finished : j ≤ 0 → s ≡ written (mergeSections s₀ g s′ g′) s₀
-  finished h =
-      sym (written-self s i (t .sound₁) (t .bytes)) ∙ ap (λ (x : List Section). written x s) (sym (merge-none s s′ i j h)) ∙ t .rest
+  pub all-written : j ≤ 0 → s ≡ written (mergeSections s₀ g s′ g′) s₀
+  all-written h =
+      sym (written-self s i (t .sound₁) (t .in-bytes)) ∙ ap (λ (x : List Section). written x s) (sym (merge-none s s′ i j h)) ∙ t .becomes
 
   module _ {e : Ends} (b : StepBack s i s′ j e) where
     pub places-left : k ≡ length (mergeSections s (e .i) s′ (e .j)) + 1
     places-left = t .groups ∙ length-back b
 
-    pub few-last : overflows (lastSection s i s′ j e) ≡ false
-    few-last = both-false (anyOf overflows (mergeSections s (e .i) s′ (e .j))) (overflows (lastSection s i s′ j e)) (sym (any-back b) ∙ t .few) .1
+    pub no-overflow-last : overflows (lastSection s i s′ j e) ≡ false
+    no-overflow-last = both-false (anyOf overflows (mergeSections s (e .i) s′ (e .j))) (overflows (lastSection s i s′ j e)) (sym (any-back b) ∙ t .no-overflow) .1
 
     -- one section more
     module _ {r : Record} {s₁ : List ℕ} (p : r ≡ recordOf (lastSection s i s′ j e)) (q : s₁ ≡ sets s ((k - 1) * 64) (encode r)) where
-      n : k - 1 ≡ length (mergeSections s (e .i) s′ (e .j))
-      n = omega (arith, places-left)
+      places-fewer : k - 1 ≡ length (mergeSections s (e .i) s′ (e .j))
+      places-fewer = omega (arith, places-left)
 
       under : e .i ≤ k - 1
-      under = omega (arith, n, merged-length (sections s (e .i)) (sections s′ (e .j)), length-sections s (e .i))
+      under = omega (arith, places-fewer, merged-length (sections s (e .i)) (sections s′ (e .j)), length-sections s (e .i))
 
-      long₁ : length s₁ ≡ length s
-      long₁ = ap length q ∙ length-sets s ((k - 1) * 64) (encode r)
+      same-length₁ : length s₁ ≡ length s
+      same-length₁ = ap length q ∙ length-sets s ((k - 1) * 64) (encode r)
 
-      same : take (e .i * 64) s₁ ≡ take (e .i * 64) s
-      same = ap (take (e .i * 64)) q ∙ take-sets s (encode r) ((k - 1) * 64) (e .i * 64) (omega (arith, under))
+      read-same : take (e .i * 64) s₁ ≡ take (e .i * 64) s
+      read-same = ap (take (e .i * 64)) q ∙ take-sets s (encode r) ((k - 1) * 64) (e .i * 64) (omega (arith, under))
 
-      inside : e .i * 64 ≤ length s₁
-      inside = omega (arith, under, long₁, t .fits)
+      read-within : e .i * 64 ≤ length s₁
+      read-within = omega (arith, under, same-length₁, t .fits)
 
-      still : mergeSections s₁ (e .i) s′ (e .j) ≡ mergeSections s (e .i) s′ (e .j)
-      still = ap (λ (x : List Section). merged x (sections s′ (e .j))) (sections-agree s₁ s (e .i) same inside (rw (← long₁) inside))
+      sections-same : mergeSections s₁ (e .i) s′ (e .j) ≡ mergeSections s (e .i) s′ (e .j)
+      sections-same = ap (λ (x : List Section). merged x (sections s′ (e .j))) (sections-agree s₁ s (e .i) read-same read-within (rw (← same-length₁) read-within))
 
-      put : s₁ ≡ sets s (length (mergeSections s (e .i) s′ (e .j)) * 64) (encode (recordOf (lastSection s i s′ j e)))
-      put = q ∙ ap₂ (λ (m : ℕ) (x : Record). sets s (m * 64) (encode x)) n p
+      put-last : s₁ ≡ sets s (length (mergeSections s (e .i) s′ (e .j)) * 64) (encode (recordOf (lastSection s i s′ j e)))
+      put-last = q ∙ ap₂ (λ (m : ℕ) (x : Record). sets s (m * 64) (encode x)) places-fewer p
 
       pub left-less : AreBytes s₁ → Unwritten s₀ g s′ g′ s₁ (e .i) (e .j) (k - 1)
       left-less h = record {
-        sound₁ = sound-agree s₁ s (e .i) same inside (rw (← long₁) inside) (b .sound₁);
+        sound₁ = sound-agree s₁ s (e .i) read-same read-within (rw (← same-length₁) read-within) (b .sound₁);
         sound₂ = b .sound₂;
-        groups = n ∙ ap length (sym still);
-        fits = omega (arith, long₁, t .fits);
-        few = ap (anyOf overflows) still ∙ both-false (anyOf overflows (mergeSections s (e .i) s′ (e .j))) (overflows (lastSection s i s′ j e)) (sym (any-back b) ∙ t .few) .0;
-        rest =
-            ap₂ written still put
+        groups = places-fewer ∙ ap length (sym sections-same);
+        fits = omega (arith, same-length₁, t .fits);
+        no-overflow = ap (anyOf overflows) sections-same ∙ both-false (anyOf overflows (mergeSections s (e .i) s′ (e .j))) (overflows (lastSection s i s′ j e)) (sym (any-back b) ∙ t .no-overflow) .0;
+        becomes =
+            ap₂ written sections-same put-last
             ∙ written-more (mergeSections s (e .i) s′ (e .j)) (lastSection s i s′ j e) s (omega (arith, places-left, t .fits))
             ∙ ap (λ (x : List Section). written x s) (sym (b .last-section))
-            ∙ t .rest;
-        long = long₁ ∙ t .long;
-        bytes = h;
+            ∙ t .becomes;
+        same-length = same-length₁ ∙ t .same-length;
+        in-bytes = h;
       }

@@ -18,7 +18,8 @@ use Rattle.table.specs.Calls.{mostRows, overflows}
 use Rattle.lists.specs.Lists.{anyOf, occurrences}
 use Rattle.lists.proofs.Booleans.{same-test}
 use Rattle.lists.proofs.All.{All}
-use Rattle.table.proofs.Lookup.{Rising, keysIn, rising-tail, find-nil, find-head, find-tail, find-above, absorb-cases, absorb-rising, added-rising, find-absorb, join, only, only-is, only-not, join-none}
+use Rattle.lists.proofs.Any.{any-true, any-occurs}
+use Rattle.table.proofs.Lookup.{Rising, keysIn, above-rising, find-nil, find-head, find-tail, find-above, absorb-cases, absorb-rising, added-rising, find-absorb, join, only, only-is, only-not, join-none}
 use Rattle.overflow.specs.Counts.{countOf, countIn, countOverflows}
 use Rattle.lists.proofs.Scanning.{occurrences-le}
 use Rattle.columns.proofs.Cells.{row-keys}
@@ -33,7 +34,7 @@ module _ (p : ℕ → ℕ → Bool) where
       → (k : ℕ) × (0 < countIn k ts) × (p k (countIn k ts) ≡ true)
   unfolding anyOf
   any-count [] a r e = absurd (true≢false (sym e))
-  any-count (t ∷ ts) a r e = by (test t) refl e (any-count ts (a .1) (rising-tail (t .key) (keysIn ts) r))
+  any-count (t ∷ ts) a r e = by (test t) refl e (any-count ts (a .1) (above-rising (t .key) (keysIn ts) r))
     where
       head : (k : ℕ) → k ≡ t .key → countIn k (t ∷ ts) ≡ t .count
       head k q = ap countOf (find-head k t ts q)
@@ -63,21 +64,21 @@ module _ (p : ℕ → ℕ → Bool) where
           rw (ih (omega arith) (rw c at e)) (or-true (test t))
 
 -- ---- counts after an add
-row-count : (r : Row) → (ofRow r .count ≡ 1) × (ofRow r .key ≡ r .key)
+ofRow-parts : (r : Row) → (ofRow r .count ≡ 1) × (ofRow r .key ≡ r .key)
 unfolding ofRow
-row-count r = (refl, refl)
+ofRow-parts r = (refl, refl)
 
 count-join : (x : Option Section) (r : Row) → countOf (join x (some (ofRow r))) ≡ countOf x + 1
 unfolding join combine
-count-join none r = row-count r .0
-count-join (some t) r = ap (λ (n : ℕ). t .count + n) (row-count r .0)
+count-join none r = ofRow-parts r .0
+count-join (some t) r = ap (λ (n : ℕ). t .count + n) (ofRow-parts r .0)
 
 count-absorb : (k : ℕ) (r : Row) (ts : List Section) → Rising (keysIn ts) → countIn k (absorb (ofRow r) ts) ≡ countIn k ts + cond (eqb (r .key) k) 1 0
 count-absorb k r ts h = ap countOf (find-absorb (ofRow r) k ts h) ∙ by (ℕ-discrete (r .key) k)
   where
     by : Dec (r .key ≡ k) → countOf (join (find k ts) (only k (ofRow r))) ≡ countIn k ts + cond (eqb (r .key) k) 1 0
-    by (yes e) = rw (eq-eqb (r .key) k e, only-is k (ofRow r) (sym e ∙ sym (row-count r .1))) (count-join (find k ts) r)
-    by (no e) = rw (ne-eqb (r .key) k e, only-not k (ofRow r) (λ q. e (sym (q ∙ row-count r .1))), join-none) (omega arith)
+    by (yes e) = rw (eq-eqb (r .key) k e, only-is k (ofRow r) (sym e ∙ sym (ofRow-parts r .1))) (count-join (find k ts) r)
+    by (no e) = rw (ne-eqb (r .key) k e, only-not k (ofRow r) (λ q. e (sym (q ∙ ofRow-parts r .1))), join-none) (omega arith)
 
 pub count-added : (k : ℕ) (rs : List Row) (ts : List Section) → Rising (keysIn ts) → countIn k (added ts rs) ≡ countIn k ts + occurrences k (map (λ (r : Row). r .key) rs)
 unfolding added occurrences
@@ -92,27 +93,8 @@ added-counts [] ts a = a
 added-counts (r ∷ rs) ts a =
     added-counts rs (absorb (ofRow r) ts)
     (absorb-cases (λ (ts us : List Section). All (λ (s : Section). 1 ≤ s .count) ts → All (λ (s : Section). 1 ≤ s .count) us) (ofRow r)
-    (λ a. (omega (arith, row-count r), tt)) (λ t ts h a. (omega (arith, row-count r), a)) (λ t ts h a. (omega (arith, a .0), a .1)) (λ t ts h ih a. (a .0, ih (a .1)))
+    (λ a. (omega (arith, ofRow-parts r), tt)) (λ t ts h a. (omega (arith, ofRow-parts r), a)) (λ t ts h a. (omega (arith, a .0), a .1)) (λ t ts h ih a. (a .0, ih (a .1)))
     ts a)
-
--- ---- a test of the numbers of a list
-any-number : (p : ℕ → Bool) (xs : List ℕ) → anyOf p xs ≡ true → (k : ℕ) × (p k ≡ true)
-unfolding anyOf
-any-number p [] e = absurd (true≢false (sym e))
-any-number p (x ∷ xs) e = by (p x) refl e (any-number p xs)
-  where
-    by : (b : Bool) → p x ≡ b → (b || anyOf p xs) ≡ true → (anyOf p xs ≡ true → (k : ℕ) × (p k ≡ true)) → (k : ℕ) × (p k ≡ true)
-    by true q e ih = (x, q)
-    by false q e ih = ih e
-
-number-any : (p : ℕ → Bool) (k : ℕ) (xs : List ℕ) → 0 < occurrences k xs → p k ≡ true → anyOf p xs ≡ true
-unfolding anyOf occurrences
-number-any p k [] h e = absurd (omega arith)
-number-any p k (x ∷ xs) h e = by (ℕ-discrete x k) (number-any p k xs)
-  where
-    by : Dec (x ≡ k) → (0 < occurrences k xs → p k ≡ true → anyOf p xs ≡ true) → (p x || anyOf p xs) ≡ true
-    by (yes q) ih = ap (λ (b : Bool). b || anyOf p xs) (ap p q ∙ e)
-    by (no q) ih = let l : 0 < cond false 1 0 + occurrences k xs = rw (ne-eqb x k q) at h in rw (ih (omega arith) e) (or-true (p x))
 
 count-few : (k : ℕ) (ts : List Section) → All (λ (s : Section). s .count ≤ mostRows) ts → countIn k ts ≤ mostRows
 count-few k [] a = rw (find-nil k) (omega arith)
@@ -123,46 +105,46 @@ count-few k (t ∷ ts) a = by (ℕ-discrete k (t .key)) (count-few k ts (a .1))
     by (no q) ih = rw (find-tail k t ts q) ih
 
 -- ---- whether an add makes a row count overflow
-abbrev full : ℕ → ℕ → Bool
-full k c = ltb mostRows c
+abbrev over-most : ℕ → ℕ → Bool
+over-most k c = ltb mostRows c
 
 module _ (kind : Kind) (ks vs : List ℕ) (ts : List Section) (a : All (λ (s : Section). 1 ≤ s .count) ts) (r : Rising (keysIn ts)) where
-  abbrev after : List Section
-  after = added ts (rowsOf kind ks vs)
+  abbrev sections-after : List Section
+  sections-after = added ts (rowsOf kind ks vs)
 
-  counts : (k : ℕ) → countIn k after ≡ countIn k ts + occurrences k (columnKeys ks)
-  counts k = count-added k (rowsOf kind ks vs) ts r ∙ ap (λ (l : List ℕ). countIn k ts + occurrences k l) (row-keys kind ks vs)
+  count-after : (k : ℕ) → countIn k sections-after ≡ countIn k ts + occurrences k (columnKeys ks)
+  count-after k = count-added k (rowsOf kind ks vs) ts r ∙ ap (λ (l : List ℕ). countIn k ts + occurrences k l) (row-keys kind ks vs)
 
   -- the add makes the count of section k overflow
-  overflow-if : (k : ℕ) → countOverflows ks k (countIn k ts) ≡ true → anyOf overflows after ≡ true
+  overflow-if : (k : ℕ) → countOverflows ks k (countIn k ts) ≡ true → anyOf overflows sections-after ≡ true
   overflow-if k e =
       let h = ltb-true mostRows (countIn k ts + occurrences k (columnKeys ks)) e in
-      let l : mostRows < countIn k after = omega (arith, counts k) in
-      count-any full k after (omega arith) (lt-ltb mostRows (countIn k after) l)
+      let l : mostRows < countIn k sections-after = omega (arith, count-after k) in
+      count-any over-most k sections-after (omega arith) (lt-ltb mostRows (countIn k sections-after) l)
 
   -- and where one of the table after the add does, some number's rows and held count make it
-  overflow-only-if : anyOf overflows after ≡ true → (k : ℕ) × (countOverflows ks k (countIn k ts) ≡ true)
+  overflow-only-if : anyOf overflows sections-after ≡ true → (k : ℕ) × (countOverflows ks k (countIn k ts) ≡ true)
   overflow-only-if e =
-      let w = any-count full after (added-counts (rowsOf kind ks vs) ts a) (added-rising ts (rowsOf kind ks vs) r) e in
-      let h = ltb-true mostRows (countIn (w .0) after) (w .2) in
-      (w .0, lt-ltb mostRows (countIn (w .0) ts + occurrences (w .0) (columnKeys ks)) (omega (arith, counts (w .0))))
+      let w = any-count over-most sections-after (added-counts (rowsOf kind ks vs) ts a) (added-rising ts (rowsOf kind ks vs) r) e in
+      let h = ltb-true mostRows (countIn (w .0) sections-after) (w .2) in
+      (w .0, lt-ltb mostRows (countIn (w .0) ts + occurrences (w .0) (columnKeys ks)) (omega (arith, count-after (w .0))))
 
   -- with few rows, a section of the table
-  pub section-overflow : columnRowCount ks ≤ mostRows → anyOf (λ (s : Section). countOverflows ks (s .key) (s .count)) ts ≡ anyOf overflows after
-  section-overflow few = same-test _ _ (λ e. let w = any-count (countOverflows ks) ts a r e in overflow-if (w .0) (w .2)) back
+  pub section-overflow : columnRowCount ks ≤ mostRows → anyOf (λ (s : Section). countOverflows ks (s .key) (s .count)) ts ≡ anyOf overflows sections-after
+  section-overflow few = same-test _ _ (λ e. let w = any-count (countOverflows ks) ts a r e in overflow-if (w .0) (w .2)) only-if
     where
-      back : anyOf overflows after ≡ true → anyOf (λ (s : Section). countOverflows ks (s .key) (s .count)) ts ≡ true
-      back e =
+      only-if : anyOf overflows sections-after ≡ true → anyOf (λ (s : Section). countOverflows ks (s .key) (s .count)) ts ≡ true
+      only-if e =
           let w = overflow-only-if e in
           let h = ltb-true mostRows (countIn (w .0) ts + occurrences (w .0) (columnKeys ks)) (w .1) in
           count-any (countOverflows ks) (w .0) ts (omega (arith, occurrences-le (w .0) (columnKeys ks), length-cells 4 number (columnRowCount ks) ks)) (w .1)
 
   -- in any case, the section of a row
-  pub row-overflow : All (λ (s : Section). s .count ≤ mostRows) ts → anyOf (λ (k : ℕ). countOverflows ks k (countIn k ts)) (columnKeys ks) ≡ anyOf overflows after
-  row-overflow few = same-test _ _ (λ e. let w = any-number (λ (k : ℕ). countOverflows ks k (countIn k ts)) (columnKeys ks) e in overflow-if (w .0) (w .1)) back
+  pub row-overflow : All (λ (s : Section). s .count ≤ mostRows) ts → anyOf (λ (k : ℕ). countOverflows ks k (countIn k ts)) (columnKeys ks) ≡ anyOf overflows sections-after
+  row-overflow few = same-test _ _ (λ e. let w = any-true (λ (k : ℕ). countOverflows ks k (countIn k ts)) (columnKeys ks) e in overflow-if (w .0) (w .1)) only-if
     where
-      back : anyOf overflows after ≡ true → anyOf (λ (k : ℕ). countOverflows ks k (countIn k ts)) (columnKeys ks) ≡ true
-      back e =
+      only-if : anyOf overflows sections-after ≡ true → anyOf (λ (k : ℕ). countOverflows ks k (countIn k ts)) (columnKeys ks) ≡ true
+      only-if e =
           let w = overflow-only-if e in
           let h = ltb-true mostRows (countIn (w .0) ts + occurrences (w .0) (columnKeys ks)) (w .1) in
-          number-any (λ (k : ℕ). countOverflows ks k (countIn k ts)) (w .0) (columnKeys ks) (omega (arith, count-few (w .0) ts few)) (w .1)
+          any-occurs (λ (k : ℕ). countOverflows ks k (countIn k ts)) (w .0) (columnKeys ks) (omega (arith, count-few (w .0) ts few)) (w .1)

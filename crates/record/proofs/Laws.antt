@@ -8,7 +8,7 @@ use native.Mathlib.Nat.{add-zero, add-assoc}
 use native.Mathlib.Numerals.{add-one}
 use borrow.Author.Tests.{le-leb}
 use lib.Dec.{leb}
-use lib.ListN.{length, getD, set, take, drop, length-append, length-drop, length-map}
+use lib.ListN.{length, getD, set, take, drop, length-append, length-drop, length-map, List·getD-map}
 use lib.Seq.{sets, sets-eq, length-take-le, take-add, drop-drop}
 use lib.IntN.{ℤ}
 use mir.Syntax.{w64}
@@ -21,18 +21,19 @@ use Rattle.level.specs.declared.SplitTotal.{SplitTotal}
 use Rattle.record.specs.declared.Record.{Record}
 use Rattle.record.specs.Layout.{totalAt, recordAt, encodeTotal, encode, decode, records}
 use Rattle.record.specs.Keys.{recordKeys}
+use Rattle.record.specs.Section.{meaning, sections}
 
 pub length-encode : (r : Record) → length (encode r) ≡ 64
 unfolding encode
 length-encode r = simp (length-append, length-bytes)
 
 -- the seven stores of a record are one
-pub stored : (s : List ℕ) (at : ℕ) (r : Record) {a b c d e f g : List ℕ}
+pub record-stored : (s : List ℕ) (at : ℕ) (r : Record) {a b c d e f g : List ℕ}
     → a ≡ sets s at (bytes 4 (r .key)) → b ≡ sets a (at + 4) (bytes 4 (r .count)) → c ≡ sets b (at + 8) (bytes 4 (r .top)) → d ≡ sets c (at + 12) (bytes 4 (r .reserved))
     → e ≡ sets d (at + 16) (encodeTotal (r .high)) → f ≡ sets e (at + 32) (encodeTotal (r .middle)) → g ≡ sets f (at + 48) (encodeTotal (r .low))
     → g ≡ sets s at (encode r)
 unfolding encode
-stored s at r p q u v x y z =
+record-stored s at r p q u v x y z =
     let k1 = bytes 4 (r .key) in
     let k2 = k1 ++ bytes 4 (r .count) in
     let k3 = k2 ++ bytes 4 (r .top) in
@@ -67,8 +68,8 @@ pub record FieldsInRange (r : Record) : Type 0 where
   pub middle : TotalInRange (r .middle)
   pub low : TotalInRange (r .low)
 
-carry-back : (z : ℤ) → SFits w64 z → toZ w64 (numberAt 8 (bytes 8 (ofZ w64 z)) 0) ≡ z
-carry-back z f = ap (toZ w64) (numberAt-bytes 8 (ofZ w64 z) (ofZ-fits w64 z f .fits)) ∙ toZ-ofZ w64 z f
+carry-read-back : (z : ℤ) → SFits w64 z → toZ w64 (numberAt 8 (bytes 8 (ofZ w64 z)) 0) ≡ z
+carry-read-back z f = ap (toZ w64) (numberAt-bytes 8 (ofZ w64 z) (ofZ-fits w64 z f .fits)) ∙ toZ-ofZ w64 z f
 
 -- reading back what was put
 pub decode-encode : (r : Record) → FieldsInRange r → decode (encode r) ≡ r
@@ -84,16 +85,19 @@ decode-encode r h =
       numberAt-bytes 4 (r .top) (h .top),
       numberAt-bytes 4 (r .reserved) (h .reserved),
       numberAt-bytes 8 (r .high .residue) (h .high .residue),
-      carry-back (r .high .carry) (h .high .carry),
+      carry-read-back (r .high .carry) (h .high .carry),
       numberAt-bytes 8 (r .middle .residue) (h .middle .residue),
-      carry-back (r .middle .carry) (h .middle .carry),
+      carry-read-back (r .middle .carry) (h .middle .carry),
       numberAt-bytes 8 (r .low .residue) (h .low .residue),
-      carry-back (r .low .carry) (h .low .carry),
+      carry-read-back (r .low .carry) (h .low .carry),
     )
 
 module _ (s : List ℕ) (g : ℕ) (fits : g * 64 ≤ length s) where
   pub getD-records : (i : ℕ) (d : Record) → i < g → getD (records s g) i d ≡ recordAt s (i * 64)
   getD-records i d h = getD-cells 64 decode i g s d h ∙ decode-part s (i * 64) (omega arith)
+
+  pub getD-sections : (i : ℕ) (d : Record) → i < g → getD (sections s g) i (meaning d) ≡ meaning (recordAt s (i * 64))
+  getD-sections i d h = List·getD-map meaning (records s g) i d ∙ ap meaning (getD-records i d h)
 
   pub records-put : (i : ℕ) (r : Record) → i < g → decode (encode r) ≡ r → records (sets s (i * 64) (encode r)) g ≡ set (records s g) i r
   records-put i r h e = cells-sets 64 decode i g s (encode r) h (length-encode r) fits ∙ ap (set (records s g) i) e
@@ -110,15 +114,15 @@ length-keys s g = length-map (records s g) (λ (r : Record). r .key) ∙ length-
 -- ---- the used bytes are determined by the records
 
 module _ (b : List ℕ) (h : AreBytes b) where
-  join : (n m : ℕ) {x y : List ℕ} → x ≡ take n b → y ≡ take m (drop n b) → x ++ y ≡ take (n + m) b
-  join n m p q = ap₂ (λ (u v : List ℕ). u ++ v) p q ∙ sym (take-add n m b)
+  join-takes : (n m : ℕ) {x y : List ℕ} → x ≡ take n b → y ≡ take m (drop n b) → x ++ y ≡ take (n + m) b
+  join-takes n m p q = ap₂ (λ (u v : List ℕ). u ++ v) p q ∙ sym (take-add n m b)
 
   carry-bytes : (a : ℕ) → a + 8 ≤ length b → bytes 8 (ofZ w64 (toZ w64 (numberAt 8 b a))) ≡ take 8 (drop a b)
   carry-bytes a l = ap (bytes 8) (ofZ-toZ w64 (numberAt 8 b a) (record { fits = numberAt-lt 8 a b h })) ∙ bytes-numberAt 8 a b l h
 
 total-bytes : (b : List ℕ) (h : AreBytes b) (a : ℕ) → a + 16 ≤ length b → encodeTotal (totalAt b a) ≡ take 16 (drop a b)
 total-bytes b h a l =
-    join (drop a b) (drop-bytes a b h) 8 8 (bytes-numberAt 8 a b (omega arith) h)
+    join-takes (drop a b) (drop-bytes a b h) 8 8 (bytes-numberAt 8 a b (omega arith) h)
     (carry-bytes b h (a + 8) (omega arith) ∙ ap (take 8) (sym (drop-drop 8 a b)))
 
 pub encode-decode : (b : List ℕ) → 64 ≤ length b → AreBytes b → encode (decode (take 64 b)) ≡ take 64 b
@@ -126,7 +130,7 @@ unfolding encode
 encode-decode b l h =
     let f : (a : ℕ) → a + 4 ≤ length b → bytes 4 (numberAt 4 b a) ≡ take 4 (drop a b) = λ a k. bytes-numberAt 4 a b k h in
     ap encode (decode-part b 0 l)
-    ∙ join b h 48 16 (join b h 32 16 (join b h 16 16 (join b h 12 4 (join b h 8 4 (join b h 4 4
+    ∙ join-takes b h 48 16 (join-takes b h 32 16 (join-takes b h 16 16 (join-takes b h 12 4 (join-takes b h 8 4 (join-takes b h 4 4
     (f 0 (omega arith)) (f 4 (omega arith))) (f 8 (omega arith))) (f 12 (omega arith)))
     (total-bytes b h 16 (omega arith))) (total-bytes b h 32 (omega arith))) (total-bytes b h 48 (omega arith))
 

@@ -1,8 +1,8 @@
 -- Laws of rising keys. The idea: among rising keys those below k are the first ones, so that their number (`countBelow`) is where k stands or would stand.
 use Prim.Native.Nat.{ℕ, zero, suc, _<_, _≤_, zero-le}
-use mathlib.Core.Path.{_≡_, refl, sym, ap, subst}
+use mathlib.Core.Path.{_≡_, refl, sym, subst}
 use mathlib.Core.Bool.{Bool, true, false, cond, _||_, or-true, true≢false}
-use mathlib.Core.List.{List, [], _∷_, _++_, map}
+use mathlib.Core.List.{List, [], _∷_, _++_}
 use native.Mathlib.Nat.{lt-trans, eq-or-lt-of-le}
 use mathlib.Core.Logic.{_⊎_, inl, inr, ⊎-elim}
 use native.Mathlib.Omega.{arith}
@@ -102,10 +102,10 @@ module _ (k : ℕ) where
 
 -- ---- a new key in its gap
 
-cons : (x : ℕ) (l : List ℕ) → (0 < length l → x < getD l 0 0) → T (rising l) → T (rising (x ∷ l))
+rising-cons : (x : ℕ) (l : List ℕ) → (0 < length l → x < getD l 0 0) → T (rising l) → T (rising (x ∷ l))
 unfolding rising
-cons x [] h r = tt
-cons x (y ∷ ys) h r = and-i (ltb x y) (rising (y ∷ ys)) (lt→ltb x y (h (omega arith))) r
+rising-cons x [] h r = tt
+rising-cons x (y ∷ ys) h r = and-i (ltb x y) (rising (y ∷ ys)) (lt→ltb x y (h (omega arith))) r
 
 -- the first of the keys is above x, also with k among them
 first-above : (x k i : ℕ) (xs : List ℕ) → x < k → (0 < length xs → x < getD xs 0 0) → x < getD (take i xs ++ k ∷ drop i xs) 0 0
@@ -122,18 +122,12 @@ rising-insert k (x ∷ xs) r n = by (ltb x k) refl (rising-insert k xs (rising-t
         → T (rising (take (countBelow k xs) xs ++ k ∷ drop (countBelow k xs) xs))
         → T (rising (take (cond b (suc (countBelow k xs)) (countBelow k xs)) (x ∷ xs) ++ k ∷ drop (cond b (suc (countBelow k xs)) (countBelow k xs)) (x ∷ xs)))
     by true e ih =
-        cons x (take (countBelow k xs) xs ++ k ∷ drop (countBelow k xs) xs)
+        rising-cons x (take (countBelow k xs) xs ++ k ∷ drop (countBelow k xs) xs)
         (λ l. first-above x k (countBelow k xs) xs (ltb-true x k e) (λ m. head-lt x xs r 0 m))
         ih
     by false e ih =
         let h : k ≤ x = ltb-false x k e in
-        rw (below-none k xs (λ j m. omega (arith, head-lt x xs r j m))) (cons k (x ∷ xs) (λ l. lt-of-le-ne h (λ q. eqb-false x k (both-false (eqb x k) (has k xs) n .0) (sym q))) r)
-
--- the keys of records of which one is new
-pub map-insert : {A B : Type 0} (f : A → B) (i : ℕ) (a : A) (l : List A) → map f (take i l ++ a ∷ drop i l) ≡ take i (map f l) ++ f a ∷ drop i (map f l)
-map-insert f zero a l = refl
-map-insert f (suc i) a [] = refl
-map-insert f (suc i) a (x ∷ xs) = ap (λ (l : List _). f x ∷ l) (map-insert f i a xs)
+        rw (below-none k xs (λ j m. omega (arith, head-lt x xs r j m))) (rising-cons k (x ∷ xs) (λ l. lt-of-le-ne h (λ q. eqb-false x k (both-false (eqb x k) (has k xs) n .0) (sym q))) r)
 
 -- ---- what a place says
 

@@ -16,10 +16,10 @@ use Rattle.record.specs.declared.Record.{Record}
 use Rattle.record.specs.Sound.{soundTotal, soundRecord, isZero}
 
 -- a level that holds 0
-abbrev pub Empty : SplitTotal → Type 0
-Empty h = (h .residue ≡ 0) × (h .carry ≡ pos 0)
+abbrev pub NoTotal : SplitTotal → Type 0
+NoTotal h = (h .residue ≡ 0) × (h .carry ≡ pos 0)
 
-pub empty-total : (h : SplitTotal) → Empty h → totalOf h ≡ pos 0
+pub empty-total : (h : SplitTotal) → NoTotal h → totalOf h ≡ pos 0
 empty-total h e = rw (e .0, e .1)
 
 pub record SoundParts (r : Record) : Type 0 where
@@ -29,20 +29,20 @@ pub record SoundParts (r : Record) : Type 0 where
   pub high : T (soundTotal (r .count) (r .high))
   pub middle : T (soundTotal (r .count) (r .middle))
   pub low : T (soundTotal (r .count) (r .low))
-  pub second : r .top < 1 → Empty (r .middle)
-  pub third : r .top < 2 → Empty (r .low)
+  pub no-middle : r .top < 1 → NoTotal (r .middle)
+  pub no-low : r .top < 2 → NoTotal (r .low)
 
-zero-empty : (h : SplitTotal) → T (isZero h) → Empty h
+zero-empty : (h : SplitTotal) → T (isZero h) → NoTotal h
 unfolding isZero
 zero-empty h t =
     let a = eqb (h .residue) 0 in
     let b = eqb (natAbs (h .carry)) 0 in
     (eqb→eq (h .residue) 0 (and-l a b t), size-zero (h .carry) (eqb→eq (natAbs (h .carry)) 0 (and-r a b t)))
 
-below-empty : (j t : ℕ) (h : SplitTotal) → T (leb j t || isZero h) → t < j → Empty h
+below-empty : (j t : ℕ) (h : SplitTotal) → T (leb j t || isZero h) → t < j → NoTotal h
 below-empty j t h = by (leb j t) (leb→le j t)
   where
-    by : (b : Bool) → (T b → j ≤ t) → T (b || isZero h) → t < j → Empty h
+    by : (b : Bool) → (T b → j ≤ t) → T (b || isZero h) → t < j → NoTotal h
     by true f o l = let m = f tt in absurd (omega arith)
     by false f o l = zero-empty h o
 
@@ -70,8 +70,8 @@ sound-record-parts r h =
       high = and-r (a && b && c) d h4;
       middle = and-r (a && b && c && d) e h5;
       low = and-r (a && b && c && d && e) f h6;
-      second = below-empty 1 (r .top) (r .middle) (and-r (a && b && c && d && e && f) g h7);
-      third = below-empty 2 (r .top) (r .low) (and-r (a && b && c && d && e && f && g) k h);
+      no-middle = below-empty 1 (r .top) (r .middle) (and-r (a && b && c && d && e && f) g h7);
+      no-low = below-empty 2 (r .top) (r .low) (and-r (a && b && c && d && e && f && g) k h);
     }
 
 -- ---- a level: its residue and its total are bounded, and with fewer than 2^32 rows so is its carry
@@ -83,12 +83,12 @@ module _ (n : ℕ) (h : SplitTotal) (t : T (soundTotal n h)) where
   unfolding soundTotal
   residue-bound = ltb→lt (h .residue) (carryBase) (and-l (ltb (h .residue) (carryBase)) (leb (natAbs (totalOf h)) (n * levelBound)) t)
 
-  pub total-bound : natAbs (totalOf h) ≤ n * levelBound
+  pub totalOf-bound : natAbs (totalOf h) ≤ n * levelBound
   unfolding soundTotal
-  total-bound = leb→le (natAbs (totalOf h)) (n * levelBound) (and-r (ltb (h .residue) (carryBase)) (leb (natAbs (totalOf h)) (n * levelBound)) t)
+  totalOf-bound = leb→le (natAbs (totalOf h)) (n * levelBound) (and-r (ltb (h .residue) (carryBase)) (leb (natAbs (totalOf h)) (n * levelBound)) t)
 
   pub carry-bound : n < 2 ^ 32 → natAbs (h .carry) < 2 ^ 22
-  carry-bound l = omega (arith, residue-bound, total-bound, carry-small (h .residue) (h .carry))
+  carry-bound l = omega (arith, residue-bound, totalOf-bound, carry-small (h .residue) (h .carry))
 
   pub total-range : n < 2 ^ 32 → InRange h
   total-range l = (residue-bound, carry-bound l)

@@ -2,22 +2,22 @@
 -- before it, so that a line is the pieces one after the other.
 use Prim.Native.Nat.{ℕ, suc, _+_, _*_, _<_, _≤_}
 use mathlib.Core.Path.{_≡_, sym, ap, _∙_}
-use mathlib.Core.List.{List, [], _∷_, _++_, append-assoc, append-nil}
+use mathlib.Core.List.{List, _++_}
 use mathlib.Core.Option.{some}
 use native.Mathlib.Omega.{arith}
 use lib.Dec.{T}
 use lib.IntN.{ℤ}
-use lib.ListN.{length, getD, take, List·getD-map}
+use lib.ListN.{length, getD, take}
 use lib.Seq.{take-suc}
 use lib.Ieee.Scale.{finite}
 use Rattle.codec.specs.Cells.{image}
-use Rattle.codec.proofs.Cells.{getD-cells}
+use Rattle.codec.proofs.Cells.{image-snoc}
 use Rattle.refusal.specs.Outcome.{Outcome, accepted, refused}
 use Rattle.refusal.proofs.Outcomes.{refused-alike}
-use Rattle.record.specs.Layout.{decode, recordAt, records}
+use Rattle.record.specs.Layout.{recordAt}
 use Rattle.record.specs.Section.{Section, meaning, sections}
 use Rattle.record.specs.Sound.{sound}
-use Rattle.record.proofs.Laws.{decode-part}
+use Rattle.record.proofs.Laws.{getD-sections}
 use Rattle.record.proofs.Sound.{sound-parts}
 use Rattle.table.proofs.State.{length-sections}
 use Rattle.finish.specs.Finish.{sumOf, figureOf, figureFor, figureGrounds, lineOf, lineFor}
@@ -39,12 +39,12 @@ line-printed key count last start fields = then-ended last lineFeed start fields
 
 -- ---- the line of a section
 
-abbrev pub Written : Section → FinishedLine → Type 0
-Written s l = T (finite (l .sum)) × (lineWith (l .key) (l .count) (lastFields (accepted (l .sum)) (accepted (l .figure))) ≡ lineText s)
+abbrev pub GivesLine : Section → FinishedLine → Type 0
+GivesLine s l = T (finite (l .sum)) × (lineWith (l .key) (l .count) (lastFields (accepted (l .sum)) (accepted (l .figure))) ≡ lineText s)
 
-pub finished : (s : Section) (l : FinishedLine) → accepted l ≡ lineOf (some s) → Written s l
+pub line-finished : (s : Section) (l : FinishedLine) → accepted l ≡ lineOf (some s) → GivesLine s l
 unfolding lineText
-finished s l e =
+line-finished s l e =
     let g = line-given s l (sym e) in
     (g .finite-sum, rw (← g .is, g .small, g .not-beyond))
 
@@ -58,26 +58,16 @@ unfinished s n e =
 
 -- ---- a section in its place
 
-image-snoc : (ts : List Section) (t : Section) → image lineText (ts ++ t ∷ []) ≡ image lineText ts ++ lineText t
-unfolding image
-image-snoc [] t = append-nil (lineText t)
-image-snoc (u ∷ ts) t = ap (λ (l : List ℕ). lineText u ++ l) (image-snoc ts t) ∙ sym (append-assoc (lineText u) (image lineText ts) (lineText t))
-
 module _ (s : List ℕ) (g i : ℕ) (ok : T (sound s g)) (h : i < g) where
   abbrev here : Section
   here = meaning (recordAt s (i * 64))
 
-  pub inside : i * 64 + 64 ≤ length s
-  inside = omega (arith, sound-parts s g ok .0)
-
-  pub section-at : getD (sections s g) i here ≡ here
-  section-at =
-      List·getD-map meaning (records s g) i (recordAt s (i * 64))
-      ∙ ap meaning (getD-cells 64 decode i g s (recordAt s (i * 64)) h ∙ decode-part s (i * 64) inside)
+  pub section-within : i * 64 + 64 ≤ length s
+  section-within = omega (arith, sound-parts s g ok .0)
 
   -- one more line
   pub more-lines : image lineText (take (suc i) (sections s g)) ≡ image lineText (take i (sections s g)) ++ lineText here
   more-lines =
       ap (image lineText) (take-suc (sections s g) i here (omega (arith, length-sections s g)))
-      ∙ image-snoc (take i (sections s g)) (getD (sections s g) i here)
-      ∙ ap (λ (t : Section). image lineText (take i (sections s g)) ++ lineText t) section-at
+      ∙ image-snoc lineText (take i (sections s g)) (getD (sections s g) i here)
+      ∙ ap (λ (t : Section). image lineText (take i (sections s g)) ++ lineText t) (getD-sections s g (sound-parts s g ok .0) i (recordAt s (i * 64)) h)

@@ -48,8 +48,8 @@ length-last s = by (sumOf (some s)) (figureOf (some s)) refl refl
   where
     after-bits : (x : Float) (l : List ℕ) → length l ≤ longestRefusal → length (hexadecimal (toBits binary64 x) ++ space ++ l) ≤ longestRefusedFields
     after-bits x l h =
-        let bits = hexadecimal (toBits binary64 x) in
-        omega (arith, length-append (bits ++ space) l, length-append bits space, length-hexadecimal (toBits binary64 x))
+        let bits-text = hexadecimal (toBits binary64 x) in
+        omega (arith, length-append (bits-text ++ space) l, length-append bits-text space, length-hexadecimal (toBits binary64 x))
 
     by : (o : Outcome Float) (f : Outcome ℤ) → sumOf (some s) ≡ o → figureOf (some s) ≡ f → length (lastFields o f) ≤ longestRefusedFields
     by (refused n) f d e = omega (arith, length-refusal n (omega (arith, refused-below 100 (sumGrounds s) (sumFor s) refl d)))
@@ -102,7 +102,7 @@ length-columns ks vs b = by (addOutcome Double emptyTable 0 ks vs tableBytes) re
     by (accepted g) e =
         let l = columns-left ks vs g b e in
         let room : g ≤ 64 = l .room in
-        omega (arith, l .groups, length-lines ts (rw (← l .holds) (l .table .fits)))
+        omega (arith, l .groups, length-lines ts (rw (← l .has-sections) (l .table .storable)))
     by (refused n) e = length-refused n (add-number ks vs e)
 
 pub length-report : (f : List ℕ) → AreBytes f → length (reportText f) ≤ longestText

@@ -15,7 +15,7 @@ use Rattle.columns.specs.declared.Kind.the-variants.{Double}
 use Rattle.patch.specs.File.{readOutcome, keyColumn, valueColumn}
 use Rattle.record.specs.Section.{sections}
 use Rattle.table.specs.Calls.{addSections, addOutcome, addLeaves}
-use Rattle.table.proofs.Accepted.{Left, proper-none, add-left}
+use Rattle.table.proofs.Accepted.{AcceptedTable, proper-none, add-left}
 use Rattle.lists.proofs.Booleans.{never}
 use Rattle.report.specs.Text.{tableBytes, refusalText, lineFeed, headLine, lineText, emptyTable, addText, columnsText, fileText, reportText}
 use Rattle.report.specs.Answer.{printOutcome, printLeaves}
@@ -23,7 +23,7 @@ use Rattle.numerals.specs.Steps.{Continued}
 
 -- what an accepted add to the empty table leaves
 pub columns-left : (ks vs : List ℕ) (g : ℕ) → AreBytes ks → addOutcome Double emptyTable 0 ks vs tableBytes ≡ accepted g
-    → Left emptyTable (addSections Double emptyTable 0 ks vs) (addLeaves Double emptyTable 0 ks vs tableBytes) g
+    → AcceptedTable emptyTable (addSections Double emptyTable 0 ks vs) (addLeaves Double emptyTable 0 ks vs tableBytes) g
 columns-left ks vs g a e = add-left emptyTable 0 (proper-none emptyTable) Double ks vs tableBytes a e
 
 pub columns-accepted : (ks vs : List ℕ) (g : ℕ) → AreBytes ks → addOutcome Double emptyTable 0 ks vs tableBytes ≡ accepted g
@@ -31,7 +31,7 @@ pub columns-accepted : (ks vs : List ℕ) (g : ℕ) → AreBytes ks → addOutco
 unfolding columnsText addText
 columns-accepted ks vs g a e =
     ap (λ o. addText o (addSections Double emptyTable 0 ks vs)) e
-    ∙ ap (λ ts. headLine ++ image lineText ts) (sym (columns-left ks vs g a e .holds))
+    ∙ ap (λ ts. headLine ++ image lineText ts) (sym (columns-left ks vs g a e .has-sections))
 
 pub columns-refused : (ks vs : List ℕ) (n : ℕ) → addOutcome Double emptyTable 0 ks vs tableBytes ≡ refused n → columnsText Double ks vs ≡ refusalText n ++ lineFeed
 unfolding columnsText addText

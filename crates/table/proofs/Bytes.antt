@@ -1,20 +1,20 @@
 -- Sections in bytes: what is written is read back, and is a sound table. The idea: what holds of one record and its bytes holds of all cells of a table.
-use Prim.Native.Nat.{ℕ, suc, _+_, _-_, _*_, _^_, _≤_, _<_}
+use Prim.Native.Nat.{ℕ, suc, _*_, _^_, _≤_, _<_}
 use mathlib.Core.Path.{_≡_, refl, _∙_, ap, ap₂}
-use mathlib.Core.Bool.{true, _||_}
+use mathlib.Core.Bool.{true, false, _||_}
 use mathlib.Core.List.{List, [], _∷_, _++_, map, append-assoc}
 use native.Mathlib.Omega.{arith}
 use native.Mathlib.Nat.{mul-comm}
 use native.Mathlib.Decide.{decLe}
-use borrow.Author.Tests.{lt-ltb, le-leb, lt-leb}
+use borrow.Author.Tests.{lt-ltb, ltb-false, le-leb, lt-leb}
 use lib.Dec.{leb}
 use lib.ListN.{length, drop, length-append, length-drop}
-use lib.Seq.{drop-append-add, drop-drop}
 use lib.IntN.{ℤ, pos, negsuc, natAbs}
 use mir.Syntax.{w64}
 use mir.Val.{SFits}
 use Rattle.level.specs.Level.{levelBound}
 use Rattle.codec.specs.Cells.{cells, image}
+use Rattle.codec.proofs.Laws.{drop-past}
 use Rattle.codec.proofs.Cells.{cells-cons, length-image}
 use Rattle.level.specs.Carry.{carryBase, carryOf, residueOf, splitOf}
 use Rattle.level.proofs.Carry.{residue-lt, total-split}
@@ -23,8 +23,10 @@ use Rattle.record.specs.Keys.{recordKeys, rising}
 use Rattle.record.specs.Sound.{soundTotal, isZero, soundRecord, soundRecords, sound}
 use Rattle.record.specs.Section.{Section, meaning, recordOf, sections, sectionBytes, written}
 use Rattle.record.proofs.Laws.{length-encode, TotalInRange, FieldsInRange, decode-encode}
-use Rattle.lists.proofs.All.{All}
-use Rattle.table.specs.Calls.{mostRows}
+use Rattle.lists.specs.Lists.{anyOf}
+use Rattle.lists.proofs.All.{All, all-map, all-zip}
+use Rattle.lists.proofs.Any.{any-false}
+use Rattle.table.specs.Calls.{mostRows, overflows}
 use Rattle.table.proofs.Lookup.{Above, Rising, keysIn}
 use Rattle.table.proofs.Proper.{Proper}
 
@@ -32,6 +34,14 @@ use Rattle.table.proofs.Proper.{Proper}
 pub record Storable (s : Section) : Type 0 where
   pub proper : Proper s
   pub few : s .count ≤ mostRows
+
+pub propers : (ts : List Section) → All Storable ts → All Proper ts
+propers = all-map Storable Proper (λ t f. f .proper)
+
+-- proper sections of which none overflows
+pub storables : (ts : List Section) → All Proper ts → anyOf overflows ts ≡ false → All Storable ts
+storables ts a n =
+    all-zip Proper (λ (t : Section). overflows t ≡ false) Storable (λ t p f. record { proper = p; few = ltb-false mostRows (t .count) f }) ts a (any-false overflows ts n)
 
 -- ---- one record
 pub meaning-record : (s : Section) → meaning (recordOf s) ≡ s
@@ -44,15 +54,15 @@ meaning-record s = λ i. record {
   low = total-split (s .low) i;
 }
 
-carry-fits : (z : ℤ) → natAbs z ≤ 2 ^ 71 → SFits w64 (carryOf z)
-carry-fits (pos n) h = record { sfits = omega arith }
-carry-fits (negsuc n) h = record { sfits = omega arith }
+carryOf-fits : (z : ℤ) → natAbs z ≤ 2 ^ 71 → SFits w64 (carryOf z)
+carryOf-fits (pos n) h = record { sfits = omega arith }
+carryOf-fits (negsuc n) h = record { sfits = omega arith }
 
-split-in-range : (z : ℤ) → natAbs z ≤ 2 ^ 71 → TotalInRange (splitOf z)
-split-in-range z h = record { residue = omega (arith, residue-lt z); carry = carry-fits z h }
+splitOf-in-range : (z : ℤ) → natAbs z ≤ 2 ^ 71 → TotalInRange (splitOf z)
+splitOf-in-range z h = record { residue = omega (arith, residue-lt z); carry = carryOf-fits z h }
 
-in-range : (s : Section) → Storable s → FieldsInRange (recordOf s)
-in-range s f =
+recordOf-in-range : (s : Section) → Storable s → FieldsInRange (recordOf s)
+recordOf-in-range s f =
     let p = f .proper in
     let few = f .few in
     record {
@@ -60,18 +70,18 @@ in-range s f =
       count = omega arith;
       top = omega (arith, p .top);
       reserved = omega arith;
-      high = split-in-range (s .high) (omega (arith, p .high));
-      middle = split-in-range (s .middle) (omega (arith, p .middle));
-      low = split-in-range (s .low) (omega (arith, p .low));
+      high = splitOf-in-range (s .high) (omega (arith, p .high));
+      middle = splitOf-in-range (s .middle) (omega (arith, p .middle));
+      low = splitOf-in-range (s .low) (omega (arith, p .low));
     }
 
 sound-total : (n : ℕ) (z : ℤ) → natAbs z ≤ n * levelBound → soundTotal n (splitOf z) ≡ true
 unfolding soundTotal
 sound-total n z h = rw (lt-ltb (residueOf z) (carryBase) (residue-lt z), total-split z) (le-leb (natAbs z) (n * levelBound) h)
 
-none-below : (i t : ℕ) (z : ℤ) → (t < i → z ≡ pos 0) → (leb i t || isZero (splitOf z)) ≡ true
+zero-if-absent : (i t : ℕ) (z : ℤ) → (t < i → z ≡ pos 0) → (leb i t || isZero (splitOf z)) ≡ true
 unfolding isZero
-none-below i t z h = go (decLe i t)
+zero-if-absent i t z h = go (decLe i t)
   where
     go : Dec (i ≤ t) → (leb i t || isZero (splitOf z)) ≡ true
     go (yes l) = rw (le-leb i t l)
@@ -86,9 +96,9 @@ sound-record s p =
       sound-total (s .count) (s .high) (p .high),
       sound-total (s .count) (s .middle) (p .middle),
       sound-total (s .count) (s .low) (p .low),
-      none-below 1 (s .top) (s .middle) (p .second),
+      zero-if-absent 1 (s .top) (s .middle) (p .no-middle),
     )
-    (none-below 2 (s .top) (s .low) (p .third))
+    (zero-if-absent 2 (s .top) (s .low) (p .no-low))
 
 -- ---- a whole table
 pub records-read : (ts : List Section) (rest : List ℕ) → All Storable ts → records (sectionBytes ts ++ rest) (length ts) ≡ map recordOf ts
@@ -97,7 +107,7 @@ records-read [] rest a = refl
 records-read (t ∷ ts) rest a =
     ap (cells 64 decode (suc (length ts))) (append-assoc (encode (recordOf t)) (sectionBytes ts) rest)
     ∙ cells-cons 64 decode (length ts) (encode (recordOf t)) (sectionBytes ts ++ rest) (length-encode (recordOf t))
-    ∙ ap₂ _∷_ (decode-encode (recordOf t) (in-range t (a .0))) (records-read ts rest (a .1))
+    ∙ ap₂ _∷_ (decode-encode (recordOf t) (recordOf-in-range t (a .0))) (records-read ts rest (a .1))
 
 pub meanings : (ts : List Section) → map meaning (map recordOf ts) ≡ ts
 meanings [] = refl
@@ -115,12 +125,6 @@ length-written ts s h =
     ∙ rw (length-sectionBytes ts, length-drop (64 * length ts) s) (omega arith)
 
 -- a longer table written over a shorter one
-drop-past : (e s : List ℕ) (a b : ℕ) → length e ≡ b → b ≤ a → drop a (e ++ drop b s) ≡ drop a s
-drop-past e s a b h l =
-    let p : a ≡ length e + (a - b) = omega arith in
-    let q : b + (a - b) ≡ a = omega arith in
-    ap (λ (n : ℕ). drop n (e ++ drop b s)) p ∙ drop-append-add e (drop b s) (a - b) ∙ drop-drop (a - b) b s ∙ ap (λ (n : ℕ). drop n s) q
-
 pub written-over : (ts us : List Section) (s : List ℕ) → length ts ≤ length us → written us (written ts s) ≡ written us s
 written-over ts us s h =
     ap (λ (l : List ℕ). sectionBytes us ++ l) (drop-past (sectionBytes ts) s (64 * length us) (64 * length ts) (length-sectionBytes ts) (omega arith))

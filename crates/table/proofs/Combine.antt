@@ -1,4 +1,5 @@
--- Sections of one key form a commutative semigroup under `combine`, whatever they hold.
+-- Sections of one key form a commutative semigroup under `combine`, whatever they hold. The idea: a section is made from what is held from two levels below its
+-- top upwards (`sectionAt-cong`), and there `combine` is a sum of integers (`levelOf-combine`).
 use Prim.Native.Nat.{ℕ, _+_, _-_, _≤_, _<_, max}
 use mathlib.Core.Path.{_≡_, sym, _∙_, ap, ap₂}
 use native.Mathlib.Omega.{arith}
@@ -11,19 +12,19 @@ use Rattle.table.specs.Combine.{levelOf, combine}
 
 -- where a level j stands under a top t that is at most two above it
 data Stands (j t : ℕ) : Type 0 where
-  first : t ≡ j → Stands j t
-  second : t ≡ j + 1 → Stands j t
-  third : t ≡ j + 2 → Stands j t
-  above : t < j → Stands j t
+  is-high : t ≡ j → Stands j t
+  is-middle : t ≡ j + 1 → Stands j t
+  is-low : t ≡ j + 2 → Stands j t
+  above-top : t < j → Stands j t
 
 stands : (j t : ℕ) → t ≤ j + 2 → Stands j t
 stands j t h = go (decLe t j) (decLe (t + 1) j) (decLe t (j + 1))
   where
     go : Dec (t ≤ j) → Dec (t + 1 ≤ j) → Dec (t ≤ j + 1) → Stands j t
-    go (yes a) (yes b) c = above (omega arith)
-    go (yes a) (no b) c = first (omega arith)
-    go (no a) b (yes c) = second (omega arith)
-    go (no a) b (no c) = third (omega arith)
+    go (yes a) (yes b) c = above-top (omega arith)
+    go (yes a) (no b) c = is-high (omega arith)
+    go (no a) b (yes c) = is-middle (omega arith)
+    go (no a) b (no c) = is-low (omega arith)
 
 -- a section holds nothing above its top
 pub levelOf-above : (s : Section) (j : ℕ) → s .top < j → levelOf s j ≡ pos 0
@@ -42,11 +43,11 @@ unfolding levelOf
 levelOf-at k n t f j l z = go (stands j t l)
   where
     go : Stands j t → levelOf (sectionAt k n t f) j ≡ f j
-    go (first e) = rw (eq-eqb j t (sym e)) (below-is f t 0 j (omega arith))
-    go (second e) = rw (ne-eqb j t (λ h. omega arith), eq-eqb (j + 1) t (sym e)) (below-is f t 1 j e)
-    go (third e) =
+    go (is-high e) = rw (eq-eqb j t (sym e)) (below-is f t 0 j (omega arith))
+    go (is-middle e) = rw (ne-eqb j t (λ h. omega arith), eq-eqb (j + 1) t (sym e)) (below-is f t 1 j e)
+    go (is-low e) =
         rw (ne-eqb j t (λ h. omega arith), ne-eqb (j + 1) t (λ h. omega arith), eq-eqb (j + 2) t (sym e)) (below-is f t 2 j e)
-    go (above h) = levelOf-above (sectionAt k n t f) j h ∙ sym (z h)
+    go (above-top h) = levelOf-above (sectionAt k n t f) j h ∙ sym (z h)
 
 -- families that agree from level t - 2 upwards make one section
 below-cong : (f g : ℕ → ℤ) (t i : ℕ) → i ≤ 2 → ((j : ℕ) → t ≤ j + 2 → f j ≡ g j) → below f t i ≡ below g t i
@@ -67,10 +68,10 @@ sectionAt-cong k n t f g e = λ i. record {
 }
 
 -- sections made from two families combine to the one made from their sum
-pub combine-at : (k n m t u : ℕ) (f g : ℕ → ℤ) → ((j : ℕ) → t < j → f j ≡ pos 0) → ((j : ℕ) → u < j → g j ≡ pos 0)
+pub sectionAt-combine : (k n m t u : ℕ) (f g : ℕ → ℤ) → ((j : ℕ) → t < j → f j ≡ pos 0) → ((j : ℕ) → u < j → g j ≡ pos 0)
     → combine (sectionAt k n t f) (sectionAt k m u g) ≡ sectionAt k (n + m) (max t u) (λ (j : ℕ). f j +ℤ g j)
 unfolding combine
-combine-at k n m t u f g p q =
+sectionAt-combine k n m t u f g p q =
     sectionAt-cong k (n + m) (max t u) (λ j. levelOf (sectionAt k n t f) j +ℤ levelOf (sectionAt k m u g) j) (λ j. f j +ℤ g j)
     (λ j h. ap₂ _+ℤ_ (levelOf-at k n t f j (omega arith) (p j)) (levelOf-at k m u g j (omega arith) (q j)))
 

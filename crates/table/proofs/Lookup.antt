@@ -41,9 +41,9 @@ tri a b = go (decLe a b) (decLe b a)
     go (yes h) (no k) = less (omega arith)
     go (no h) k = more (omega arith)
 
-pub rising-tail : (k : ℕ) (ls : List ℕ) → Above k ls → Rising ls
-rising-tail k [] a = tt
-rising-tail k (l ∷ ls) a = a .1
+pub above-rising : (k : ℕ) (ls : List ℕ) → Above k ls → Rising ls
+above-rising k [] a = tt
+above-rising k (l ∷ ls) a = a .1
 
 -- ---- what is found
 pub find-nil : (k : ℕ) → find k [] ≡ none
@@ -88,7 +88,7 @@ find-ext (s ∷ ss) [] a b e = none-some s (sym (find-nil (s .key)) ∙ sym (e (
 find-ext (s ∷ ss) (t ∷ ts) a b e =
     let p : s ≡ t = same-head s t ss ts a b e (tri (s .key) (t .key)) in
     ap₂ _∷_ p
-    (find-ext ss ts (rising-tail (s .key) (keysIn ss) a) (rising-tail (t .key) (keysIn ts) b) (λ k. same-tail s t ss ts a b e p k (ℕ-discrete k (s .key))))
+    (find-ext ss ts (above-rising (s .key) (keysIn ss) a) (above-rising (t .key) (keysIn ts) b) (λ k. same-tail s t ss ts a b e p k (ℕ-discrete k (s .key))))
 
 -- ---- the three cases of absorbing
 pub absorb-less : (s t : Section) (ts : List Section) → s .key < t .key → absorb s (t ∷ ts) ≡ s ∷ t ∷ ts
@@ -207,7 +207,7 @@ find-absorb s l =
     (λ a. find-cons l s [] (find-nil l) ∙ sym (ap (λ (o : Option Section). join o (only l s)) (find-nil l) ∙ none-join (only l s)))
     (λ t ts h a. lower t ts h a (ℕ-discrete l (s .key)))
     (λ t ts h a. equal t ts h (ℕ-discrete l (t .key)))
-    (λ t ts h ih a. upper t ts h (ih (rising-tail (t .key) (keysIn ts) a)) (ℕ-discrete l (t .key)))
+    (λ t ts h ih a. upper t ts h (ih (above-rising (t .key) (keysIn ts) a)) (ℕ-discrete l (t .key)))
   where
     lower : (t : Section) (ts : List Section) → s .key < t .key → Above (t .key) (keysIn ts) → Dec (l ≡ s .key)
         → find l (s ∷ t ∷ ts) ≡ join (find l (t ∷ ts)) (only l s)
@@ -235,4 +235,4 @@ pub find-merged : (ts ss : List Section) (l : ℕ) → Rising (keysIn ts) → Ri
 unfolding merged
 find-merged ts [] l a b = rw (find-nil l) (sym (join-none (find l ts)))
 find-merged ts (s ∷ ss) l a b =
-    find-merged (absorb s ts) ss l (absorb-rising s ts a) (rising-tail (s .key) (keysIn ss) b) ∙ merged-step s ss ts l b a (ℕ-discrete l (s .key))
+    find-merged (absorb s ts) ss l (absorb-rising s ts a) (above-rising (s .key) (keysIn ss) b) ∙ merged-step s ss ts l b a (ℕ-discrete l (s .key))

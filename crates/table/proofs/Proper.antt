@@ -1,4 +1,5 @@
--- Document 01's conditions on a sound record, read on its section; adding and merging keep them.
+-- Document 01's conditions on a sound record, read on its section; adding and merging keep them. The idea: every section is made from a family of totals, and is
+-- proper where the rows bound each total (`sectionAt-proper`).
 use Prim.Native.Nat.{ℕ, _+_, _-_, _*_, _^_, _≤_, _<_, max}
 use mathlib.Core.Path.{_≡_}
 use mathlib.Core.Bool.{Bool, true, false, cond}
@@ -24,8 +25,8 @@ pub record Proper (s : Section) : Type 0 where
   pub high : natAbs (s .high) ≤ s .count * levelBound
   pub middle : natAbs (s .middle) ≤ s .count * levelBound
   pub low : natAbs (s .low) ≤ s .count * levelBound
-  pub second : s .top < 1 → s .middle ≡ pos 0
-  pub third : s .top < 2 → s .low ≡ pos 0
+  pub no-middle : s .top < 1 → s .middle ≡ pos 0
+  pub no-low : s .top < 2 → s .low ≡ pos 0
 
 -- ---- bounds of levels
 cond-bound : (m : ℕ) (b : Bool) (x y : ℤ) → natAbs x ≤ m → natAbs y ≤ m → natAbs (cond b x y) ≤ m
@@ -51,8 +52,8 @@ module _ (k n t : ℕ) (f : ℕ → ℤ) (bound : (j : ℕ) → natAbs (f j) ≤
     high = below-bound 0;
     middle = below-bound 1;
     low = below-bound 2;
-    second = λ q. rw (lt-leb 1 t q);
-    third = λ q. rw (lt-leb 2 t q);
+    no-middle = λ q. rw (lt-leb 1 t q);
+    no-low = λ q. rw (lt-leb 2 t q);
   }
 
 -- ---- what adding and merging make

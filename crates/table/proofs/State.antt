@@ -17,7 +17,7 @@ use Rattle.record.specs.Keys.{recordKeys, rising}
 use Rattle.record.specs.Sound.{soundRecord, soundRecords, sound}
 use Rattle.record.specs.Section.{Section, meaning, recordOf, sections, sectionBytes}
 use Rattle.record.proofs.Laws.{encode-decode}
-use Rattle.record.proofs.Parts.{empty-total, sound-record-parts, residue-bound, total-bound}
+use Rattle.record.proofs.Parts.{empty-total, sound-record-parts, residue-bound, totalOf-bound}
 use Rattle.record.proofs.Sound.{sound-parts, sound-if}
 use Rattle.lists.proofs.All.{All}
 use Rattle.table.proofs.Lookup.{Rising, keysIn}
@@ -32,11 +32,11 @@ section-proper r k t =
       key = k;
       count = p .count;
       top = p .top;
-      high = total-bound (r .count) (r .high) (p .high);
-      middle = total-bound (r .count) (r .middle) (p .middle);
-      low = total-bound (r .count) (r .low) (p .low);
-      second = λ l. empty-total (r .middle) (p .second l);
-      third = λ l. empty-total (r .low) (p .third l);
+      high = totalOf-bound (r .count) (r .high) (p .high);
+      middle = totalOf-bound (r .count) (r .middle) (p .middle);
+      low = totalOf-bound (r .count) (r .low) (p .low);
+      no-middle = λ l. empty-total (r .middle) (p .no-middle l);
+      no-low = λ l. empty-total (r .low) (p .no-low l);
     }
 
 pub record-meaning : (r : Record) → T (soundRecord r) → recordOf (meaning r) ≡ r
@@ -53,17 +53,17 @@ unfolding cells
 cells-all P w f h zero s a = tt
 cells-all P w f h (suc n) s a = (h (take w s) (take-bytes w s a), cells-all P w f h n (drop w s) (drop-bytes w s a))
 
-abbrev Small : Record → Type 0
-Small r = (r .key < 2 ^ 32) × (r .count < 2 ^ 32)
+abbrev InFields : Record → Type 0
+InFields r = (r .key < 2 ^ 32) × (r .count < 2 ^ 32)
 
-pub records-small : (s : List ℕ) (g : ℕ) → AreBytes s → All Small (records s g)
+pub records-in-fields : (s : List ℕ) (g : ℕ) → AreBytes s → All InFields (records s g)
 unfolding decode
-records-small s g = cells-all Small 64 decode small g s
+records-in-fields s g = cells-all InFields 64 decode in-fields g s
   where
-    small : (b : List ℕ) → AreBytes b → Small (decode b)
-    small b a = (numberAt-lt 4 0 b a, numberAt-lt 4 4 b a)
+    in-fields : (b : List ℕ) → AreBytes b → InFields (decode b)
+    in-fields b a = (numberAt-lt 4 0 b a, numberAt-lt 4 4 b a)
 
-fits-all : (rs : List Record) → All Small rs → T (soundRecords rs) → All Storable (map meaning rs)
+fits-all : (rs : List Record) → All InFields rs → T (soundRecords rs) → All Storable (map meaning rs)
 unfolding soundRecords
 fits-all [] a t = tt
 fits-all (r ∷ rs) a t = (
@@ -89,7 +89,7 @@ length-sections s g = length-map (records s g) meaning ∙ length-cells 64 decod
 -- ---- a sound table
 module _ (s : List ℕ) (g : ℕ) (ok : T (sound s g)) where
   pub sound-fits : AreBytes s → All Storable (sections s g)
-  sound-fits a = fits-all (records s g) (records-small s g a) (sound-parts s g ok .3)
+  sound-fits a = fits-all (records s g) (records-in-fields s g a) (sound-parts s g ok .3)
 
   pub sound-rising : Rising (keysIn (sections s g))
   sound-rising = rising-keys (records s g) (sound-parts s g ok .2)

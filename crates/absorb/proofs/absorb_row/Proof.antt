@@ -18,8 +18,8 @@ use Rattle.columns.proofs.Cells.{value-within}
 use Rattle.absorb.proofs.absorb_row.Statement.{statement}
 use Rattle.absorb.proofs.absorb_row.Tie as tie
 
-small : (c : tie.After-u32-at) → c .u32-at .result < 2 ^ 32
-small c = search needs
+key-fits : (c : tie.After-u32-at) → c .u32-at .result < 2 ^ 32
+key-fits c = search needs
 
 -- where the row's record was new-record
 module _ (c : tie.After-row-record) where
@@ -40,7 +40,7 @@ module _ (c : tie.After-row-record) where
 
   made-sound : T (soundRecord new-record)
   made-sound =
-      let h = small (c .before .before) in
+      let h = key-fits (c .before .before) in
       let e = c .before .before .u32-at .ensures in
       subst T (sym (ap soundRecord new-record-is ∙ sound-record (ofRow row) (row-proper row (omega arith)))) tt
 

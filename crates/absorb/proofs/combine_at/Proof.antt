@@ -25,8 +25,8 @@ module _ (c : tie.After-get) where
   old-sound : T (soundRecord old)
   old-sound = subst (λ (x : Record). T (soundRecord x)) (sym (c .get .ensures)) (start .pre .1 .0)
 
-  few : old .count + start .args .r .count ≤ mostRows
-  few = subst (λ (x : Record). x .count + start .args .r .count ≤ mostRows) (sym (c .get .ensures)) (start .pre .1 .1 .1)
+  few-together : old .count + start .args .r .count ≤ mostRows
+  few-together = subst (λ (x : Record). x .count + start .args .r .count ≤ mostRows) (sym (c .get .ensures)) (start .pre .1 .1 .1)
 
   -- the record that was made of it, written
   stored-here : (x : Record) (s : List ℕ) → x ≡ recordOf (combine (meaning old) (meaning (start .args .r))) → PutAt (start .args .t .now) (start .args .i * 64) x s
@@ -36,10 +36,10 @@ module _ (c : tie.After-get) where
       (e ∙ ap (λ (y : Record). recordOf (combine (meaning y) (meaning (start .args .r)))) (c .get .ensures))
 
 combined-same-top-requires : tie.Need-combined-same-top-requires
-combined-same-top-requires c κs = let g = c .before .before .before .before in (old-sound g, (start g .pre .1 .1 .0, (c .before .if1 .taken, few g)))
+combined-same-top-requires c κs = let g = c .before .before .before .before in (old-sound g, (start g .pre .1 .1 .0, (c .before .if1 .taken, few-together g)))
 
 combined-by-level-requires : tie.Need-combined-by-level-requires
-combined-by-level-requires c κs = let g = c .before .before .before .before in (old-sound g, (start g .pre .1 .1 .0, few g))
+combined-by-level-requires c κs = let g = c .before .before .before .before in (old-sound g, (start g .pre .1 .1 .0, few-together g))
 
 returns : tie.Need-returns
 returns c =

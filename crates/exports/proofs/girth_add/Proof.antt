@@ -15,20 +15,20 @@ groups-or-minus-requires : tie.Need-groups-or-minus-requires
 groups-or-minus-requires c κs = λ n e. add-groups _ _ _ _ _ (sym (c .before .before .before .before .add .ensures .0) ∙ e)
 
 -- what stands in the two buffers after the add, each asked on its own
-work : (c : tie.After-add) → c .add .last .1 .1 .1 .1 .0 ≡ cleared (c .before .before .before .before .before .before .before .args .work .now)
-work c = c .add .ensures .1 .1
+work-here : (c : tie.After-add) → c .add .last .1 .1 .1 .1 .0 ≡ cleared (c .before .before .before .before .before .before .before .args .work .now)
+work-here c = c .add .ensures .1 .1
 
-bytes : (c : tie.After-add)
+leaves-here : (c : tie.After-add)
     → let s = c .before .before .before .before .before .before .before .args in
     c .add .last .0 ≡ addLeaves Double (s .table .now) (s .g) (s .keys .now) (s .values .now) (length (s .work .now))
-bytes c = c .add .ensures .1 .0
+leaves-here c = c .add .ensures .1 .0
 
 returns : tie.Need-returns
 returns c =
     let a = c .before .before .before .before .before in
     let w = c .groups-or-minus in
     let f : SFits w64 (w .result) = search needs in
-    (toZ-ofZ w64 (w .result) f ∙ w .ensures ∙ ap returnsCount (a .add .ensures .0), (bytes a, work a))
+    (toZ-ofZ w64 (w .result) f ∙ w .ensures ∙ ap returnsCount (a .add .ensures .0), (leaves-here a, work-here a))
 
 pub girth-add-spec : {M : Type 1} → statement M
 girth-add-spec =

@@ -15,8 +15,8 @@ abbrev start : tie.After-report → tie.Start
 start c = c .before .before .before .before
 
 -- what stands in the output after the report, asked on its own
-bytes : (c : tie.After-report) → c .report .last .1 .0 ≡ printLeaves (start c .args .out .now) (reportText (start c .args .file .now))
-bytes c = c .report .ensures .1
+leaves-here : (c : tie.After-report) → c .report .last .1 .0 ≡ printLeaves (start c .args .out .now) (reportText (start c .args .file .now))
+leaves-here c = c .report .ensures .1
 
 -- a text that fits a slice is shorter than 2^63
 cast-result : tie.Need-cast-result
@@ -33,12 +33,12 @@ returns c =
     let n = c .before .n .given in
     let o = ap printedAnswer (sym (n .1)) ∙ c .before .before .before .before .before .report .ensures .0 in
     let most = printed-fits (s .out .now) (reportText (s .file .now)) (n .0 .0) o in
-    (toZ-pos w64 (n .0 .0) (omega arith) ∙ ap (returnsCount) o, bytes (c .before .before .before .before .before))
+    (toZ-pos w64 (n .0 .0) (omega arith) ∙ ap (returnsCount) o, leaves-here (c .before .before .before .before .before))
 
 returns-2 : tie.Need-returns-2
 returns-2 c =
     let o = ap printedAnswer (sym (c .enum-told .given .1)) ∙ c .before .before .before .before .report .ensures .0 in
-    (ap (returnsCount) o, bytes (c .before .before .before .before))
+    (ap (returnsCount) o, leaves-here (c .before .before .before .before))
 
 pub girth-report-spec : {M : Type 1} → statement M
 girth-report-spec =

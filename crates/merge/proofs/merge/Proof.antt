@@ -12,7 +12,7 @@ write-union-requires c κs =
     let a = c .before .before .before .before .before .before .before .before .args in
     let n = c .before .before .n .given .0 .0 in
     let w = accepted-says (a .first .now) (a .g1) (a .second .now) (a .g2) n (sym (ap tableAnswer (c .before .before .n .given .1)) ∙ c .before .before .before .before .decide .ensures) in
-    (w .sound₁, (w .sound₂, (w .few, (w .groups, omega (arith, w .groups, w .room)))))
+    (w .sound₁, (w .sound₂, (w .no-overflow, (w .groups, omega (arith, w .groups, w .room)))))
 
 returns : tie.Need-returns
 returns c =

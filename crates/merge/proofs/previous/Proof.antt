@@ -10,8 +10,8 @@ use borrow.Author.Needs.{needs}
 use Rattle.merge.proofs.previous.Statement.{statement}
 use Rattle.merge.proofs.previous.Tie as tie
 
-fits : (c : tie.Start) → (c .args .i * 64 ≤ length (c .args .first .now)) × (c .args .j * 64 ≤ length (c .args .second .now)) × (c .args .i ≤ mostGroups) × (c .args .j ≤ mostGroups) × (0 < c .args .j)
-fits c =
+both-within : (c : tie.Start) → (c .args .i * 64 ≤ length (c .args .first .now)) × (c .args .j * 64 ≤ length (c .args .second .now)) × (c .args .i ≤ mostGroups) × (c .args .j ≤ mostGroups) × (0 < c .args .j)
+both-within c =
     let p = sound-parts (c .args .first .now) (c .args .i) (c .pre .0) in
     let q = sound-parts (c .args .second .now) (c .args .j) (c .pre .1 .0) in
     (p .0, q .0, p .1, q .1, c .pre .1 .1)
@@ -21,18 +21,6 @@ returns c =
     let s = c .before .before .before in
     let a = s .args in
     second-last (a .first .now) (a .second .now) (a .i) (a .j) (s .pre .0) (s .pre .1 .0) (s .pre .1 .1) (λ l. absurd (omega arith))
-
-mul-u32-at : tie.Need-mul-u32-at
-mul-u32-at c = let f = fits (c .before .before .before) in omega arith
-
-u32-at-requires : tie.Need-u32-at-requires
-u32-at-requires c κs = let f = fits (c .before .before .before) in omega arith
-
-mul-u32-at-2 : tie.Need-mul-u32-at-2
-mul-u32-at-2 c = let f = fits (c .before .before .before .before) in omega arith
-
-u32-at-requires-2 : tie.Need-u32-at-requires-2
-u32-at-requires-2 c κs = let f = fits (c .before .before .before .before) in omega arith
 
 returns-2 : tie.Need-returns-2
 returns-2 c =
@@ -56,5 +44,5 @@ returns-4 c =
 pub previous-spec : {M : Type 1} → statement M
 previous-spec =
     tie.close
-    (tie.spec (λ c. search needs) returns (λ c. search needs) mul-u32-at u32-at-requires (λ c. search needs) mul-u32-at-2 u32-at-requires-2
+    (tie.spec (λ c. search needs) returns (λ c. search needs) (λ c. omega (arith, both-within (c .before .before .before))) (λ c κs. omega (arith, both-within (c .before .before .before))) (λ c. search needs) (λ c. omega (arith, both-within (c .before .before .before .before))) (λ c κs. omega (arith, both-within (c .before .before .before .before)))
     (λ c. search needs) returns-2 (λ c. search needs) (λ c. search needs) returns-3 (λ c. search needs) returns-4)

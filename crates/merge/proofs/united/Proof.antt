@@ -1,4 +1,5 @@
--- `united` counts the sections from the last one on.
+-- `united` counts the sections from the last one on. The idea: those counted, and those of the records still to be passed, together are as many as the union's,
+-- and one of them overflows where one of the union's does (`Inv-loop`).
 use Prim.Native.Nat.{ℕ, _+_, _≤_, _<_}
 use mathlib.Core.Path.{_≡_, refl, sym, ap, _∙_}
 use mathlib.Core.Bool.{Bool, true, _||_, or-true, or-false}

@@ -2,7 +2,7 @@
 use Prim.Native.Nat.{_+_}
 use mathlib.Core.Path.{refl}
 use native.Mathlib.Omega.{arith}
-use Rattle.merge.proofs.Writing.{Unwritten, places-left, few-last, left-less, finished}
+use Rattle.merge.proofs.Writing.{Unwritten, places-left, no-overflow-last, left-less, all-written}
 use Rattle.merge.proofs.write_union.Statement.{statement}
 use Rattle.merge.proofs.write_union.Tie as tie
 
@@ -18,12 +18,12 @@ loop-holds c =
     record {
       sound₁ = p .0;
       sound₂ = p .1 .0;
-      few = p .1 .1 .0;
+      no-overflow = p .1 .1 .0;
       groups = p .1 .1 .1 .0;
       fits = p .1 .1 .1 .1;
-      rest = refl;
-      long = refl;
-      bytes = λ k. c .before .slice-known .given k .fits;
+      becomes = refl;
+      same-length = refl;
+      in-bytes = λ k. c .before .slice-known .given k .fits;
     }
 
 previous-requires : tie.Need-previous-requires Inv-loop μ-loop
@@ -33,7 +33,7 @@ last-record-requires : tie.Need-last-record-requires Inv-loop μ-loop
 last-record-requires c κs =
     let v = c .before .before .before .before .loop .inv in
     let b = c .before .previous .ensures in
-    (b .within, (v .sound₁, (v .sound₂, few-last v b)))
+    (b .within, (v .sound₁, (v .sound₂, no-overflow-last v b)))
 
 sub-k : tie.Need-sub-k Inv-loop μ-loop
 sub-k c = omega (arith, places-left (c .before .before .before .before .before .loop .inv) (c .before .before .previous .ensures))
@@ -52,10 +52,10 @@ loop-less : tie.Need-loop-less Inv-loop μ-loop
 loop-less c = omega (arith, c .before .before .before .before .before .before .previous .ensures .within .fewer)
 
 same-length : tie.Need-same-length Inv-loop μ-loop
-same-length c = c .before .loop .inv .long
+same-length c = c .before .loop .inv .same-length
 
 returns : tie.Need-returns Inv-loop μ-loop
-returns c = finished (c .before .loop .inv) (c .loop-test .left)
+returns c = all-written (c .before .loop .inv) (c .loop-test .left)
 
 pub write-union-spec : {M : Type 1} → statement M
 write-union-spec =

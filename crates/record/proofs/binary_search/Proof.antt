@@ -20,23 +20,23 @@ use Rattle.record.proofs.binary_search.Tie as tie
 
 -- what the key at a record says of the place; v is that key as it was read
 module _ (s : List ℕ) (g key : ℕ) (pre : (g * 64 ≤ length s) × T (rising (recordKeys (records s g)))) (i v : ℕ) (e : v ≡ numberAt 4 s (i * 64)) where
-  at : i < g → getD (recordKeys (records s g)) i 0 ≡ v
-  at h = getD-keys s g (pre .0) i h ∙ sym e
+  key-read : i < g → getD (recordKeys (records s g)) i 0 ≡ v
+  key-read h = getD-keys s g (pre .0) i h ∙ sym e
 
-  inside : i < g → i < length (recordKeys (records s g))
-  inside h = rw length-keys h
+  in-keys : i < g → i < length (recordKeys (records s g))
+  in-keys h = rw length-keys h
 
-  smaller : i < g → v < key → i < countBelow key (recordKeys (records s g))
-  smaller h l = below-lt key (recordKeys (records s g)) (pre .1) i (inside h) (rw (at h) l)
+  count-past : i < g → v < key → i < countBelow key (recordKeys (records s g))
+  count-past h l = below-lt key (recordKeys (records s g)) (pre .1) i (in-keys h) (rw (key-read h) l)
 
-  larger : i < g → key ≤ v → countBelow key (recordKeys (records s g)) ≤ i
-  larger h l = below-ge key (recordKeys (records s g)) (pre .1) i (inside h) (rw (at h) l)
+  count-within : i < g → key ≤ v → countBelow key (recordKeys (records s g)) ≤ i
+  count-within h l = below-ge key (recordKeys (records s g)) (pre .1) i (in-keys h) (rw (key-read h) l)
 
-  found : i < g → i ≡ countBelow key (recordKeys (records s g)) → v ≡ key → Index i ≡ place key (recordKeys (records s g))
-  found h b q = place-at key (recordKeys (records s g)) i b (inside h) (at h ∙ q)
+  index-here : i < g → i ≡ countBelow key (recordKeys (records s g)) → v ≡ key → Index i ≡ place key (recordKeys (records s g))
+  index-here h b q = place-at key (recordKeys (records s g)) i b (in-keys h) (key-read h ∙ q)
 
-  missing : i < g → i ≡ countBelow key (recordKeys (records s g)) → (v ≡ key → ⊥) → Gap i ≡ place key (recordKeys (records s g))
-  missing h b n = place-gap key (recordKeys (records s g)) (pre .1) i b (λ l q. n (sym (at h) ∙ q))
+  gap-here : i < g → i ≡ countBelow key (recordKeys (records s g)) → (v ≡ key → ⊥) → Gap i ≡ place key (recordKeys (records s g))
+  gap-here h b n = place-gap key (recordKeys (records s g)) (pre .1) i b (λ l q. n (sym (key-read h) ∙ q))
 
 past-all : (s : List ℕ) (g key : ℕ) → T (rising (recordKeys (records s g))) → (i : ℕ) → i ≡ countBelow key (recordKeys (records s g)) → g ≤ i → Gap i ≡ place key (recordKeys (records s g))
 past-all s g key up i b h = place-gap key (recordKeys (records s g)) up i b (λ l q. omega (arith, length-keys s g))
@@ -60,34 +60,42 @@ loop-holds c =
     let a = c .before .args in
     (zero-le, omega (arith, below-le (a .key) (recordKeys (records (a .t .now) (a .g))), length-keys (a .t .now) (a .g)), omega arith)
 
-mul-lo : tie.Need-mul-lo Inv-loop μ-loop
-mul-lo c = ⊎-elim (λ w. omega arith) (λ w. omega arith) (chosen ((c .before .before .before .loop .n + 1) / 2) (c .before .u32-at .result) (c .before .before .before .before .before .args .key) (c .is-below .result) (c .is-below .ensures))
+-- where the key in the middle was compared
+module _ (c : tie.After-is-below Inv-loop μ-loop) where
+  abbrev start : tie.Start Inv-loop μ-loop
+  start = c .before .before .before .before .before
 
-add-lo : tie.Need-add-lo Inv-loop μ-loop
-add-lo c = ⊎-elim (λ w. omega arith) (λ w. omega arith) (chosen ((c .before .before .before .loop .n + 1) / 2) (c .before .u32-at .result) (c .before .before .before .before .before .args .key) (c .is-below .result) (c .is-below .ensures))
+  abbrev half : ℕ
+  half = (c .before .before .before .loop .n + 1) / 2
+
+  chosen-here : ((c .before .u32-at .result < start .args .key) × (half * c .is-below .result ≡ half)) ⊎ ((start .args .key ≤ c .before .u32-at .result) × (half * c .is-below .result ≡ 0))
+  chosen-here = chosen half (c .before .u32-at .result) (start .args .key) (c .is-below .result) (c .is-below .ensures)
+
+step-fits : (c : tie.After-is-below Inv-loop μ-loop) → half c * c .is-below .result ≤ half c
+step-fits c = ⊎-elim (λ w. omega arith) (λ w. omega arith) (chosen-here c)
 
 loop-again : tie.Need-loop-again Inv-loop μ-loop
 loop-again c =
-    let a = c .before .before .before .before .before in
+    let a = start c in
     let l = c .before .before .before .loop in
-    let m = l .lo + (l .n + 1) / 2 - 1 in
+    let m = l .lo + half c - 1 in
     let u = c .before .u32-at in
     ⊎-elim
-    (λ w. omega (arith, smaller (a .args .t .now) (a .args .g) (a .args .key) (a .pre) m (u .result) (u .ensures) (omega arith) (w .0)))
-    (λ w. omega (arith, larger (a .args .t .now) (a .args .g) (a .args .key) (a .pre) m (u .result) (u .ensures) (omega arith) (w .0)))
-    (chosen ((c .before .before .before .loop .n + 1) / 2) (c .before .u32-at .result) (c .before .before .before .before .before .args .key) (c .is-below .result) (c .is-below .ensures))
+    (λ w. omega (arith, count-past (a .args .t .now) (a .args .g) (a .args .key) (a .pre) m (u .result) (u .ensures) (omega arith) (w .0)))
+    (λ w. omega (arith, count-within (a .args .t .now) (a .args .g) (a .args .key) (a .pre) m (u .result) (u .ensures) (omega arith) (w .0)))
+    (chosen-here c)
 
 returns : tie.Need-returns Inv-loop μ-loop
 returns c =
     let a = c .before .before .before .before .before .before in
     let u = c .before .u32-at2 in
-    found (a .args .t .now) (a .args .g) (a .args .key) (a .pre) (c .before .before .before .before .loop .lo) (u .result) (u .ensures) (omega arith) (omega arith) (c .if2 .taken)
+    index-here (a .args .t .now) (a .args .g) (a .args .key) (a .pre) (c .before .before .before .before .loop .lo) (u .result) (u .ensures) (omega arith) (omega arith) (c .if2 .taken)
 
 returns-2 : tie.Need-returns-2 Inv-loop μ-loop
 returns-2 c =
     let a = c .before .before .before .before .before .before in
     let u = c .before .u32-at2 in
-    missing (a .args .t .now) (a .args .g) (a .args .key) (a .pre) (c .before .before .before .before .loop .lo) (u .result) (u .ensures) (omega arith) (omega arith) (c .if2 .left)
+    gap-here (a .args .t .now) (a .args .g) (a .args .key) (a .pre) (c .before .before .before .before .loop .lo) (u .result) (u .ensures) (omega arith) (omega arith) (c .if2 .left)
 
 returns-3 : tie.Need-returns-3 Inv-loop μ-loop
 returns-3 c =
@@ -98,5 +106,5 @@ pub binary-search-spec : {M : Type 1} → statement M
 binary-search-spec =
     tie.close
     (tie.spec Inv-loop μ-loop loop-holds (λ c. omega arith) (λ c. omega arith) (λ c. omega arith) (λ c. omega arith) (λ c κs. omega arith)
-    (λ c κs. search needs) mul-lo add-lo (λ c. omega arith) (λ c. omega arith) loop-again (λ c. omega arith) (λ c κs. omega arith) returns
+    (λ c κs. search needs) (λ c. omega (arith, step-fits c)) (λ c. omega (arith, step-fits c)) (λ c. omega arith) (λ c. omega arith) loop-again (λ c. omega arith) (λ c κs. omega arith) returns
     returns-2 returns-3)

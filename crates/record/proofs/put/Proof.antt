@@ -1,6 +1,6 @@
 -- `put` writes field after field; the seven parts stand one behind the other, so they are the record's encoding.
 use Prim.Native.Nat.{_*_}
-use Rattle.record.proofs.Laws.{stored, decode-encode, FieldsInRange}
+use Rattle.record.proofs.Laws.{record-stored, decode-encode, FieldsInRange}
 use native.Mathlib.Omega.{arith}
 use borrow.Author.Needs.{needs}
 use Rattle.record.proofs.put.Statement.{statement}
@@ -19,7 +19,7 @@ returns c =
     let p2 = p3 .before .before .before .before in
     let p1 = p2 .before .before .before .before in
     let a = p1 .before .before .before .args in (
-      stored (a .t .now) (a .i * 64) (a .r) (p1 .put-u32 .ensures) (p2 .put-u322 .ensures) (p3 .put-u323 .ensures) (p4 .put-u324 .ensures)
+      record-stored (a .t .now) (a .i * 64) (a .r) (p1 .put-u32 .ensures) (p2 .put-u322 .ensures) (p3 .put-u323 .ensures) (p4 .put-u324 .ensures)
           (p5 .put-total .ensures) (p6 .put-total2 .ensures) (p7 .put-total3 .ensures),
       decode-encode (a .r) (in-range (p1 .before .before .before)),
     )

@@ -3,7 +3,6 @@ use mathlib.Core.Path.{_≡_, sym, ap, _∙_}
 use Prim.Native.Nat.{ℕ}
 use mathlib.Core.List.{List}
 use native.Mathlib.Omega.{arith}
-use lib.ListN.{length}
 use Rattle.codec.proofs.Laws.{AreBytes}
 use Rattle.refusal.specs.Number.{numberOf}
 use Rattle.columns.specs.declared.Kind.the-variants.{Double}
@@ -26,10 +25,6 @@ module _ (d : tie.After-add) where
 
   bytes-here : AreBytes keys
   bytes-here i = d .before .before .before .before .shared-slice-known .given i .fits
-
-  -- of its own, so that a table of another size is refused by that size
-  capacity-here : length (d .add .last .0) ≡ tableBytes
-  capacity-here = d .add .kept .0
 
   outcome-here : addOutcome Double emptyTable 0 keys values tableBytes ≡ tableAnswer (d .add .result)
   outcome-here = sym (d .add .ensures .0)

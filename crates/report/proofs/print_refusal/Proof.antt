@@ -13,15 +13,15 @@ module _ (c : tie.After-print-decimal-field) where
   abbrev word-printed : tie.After-print-bytes
   word-printed = c .before .before .before .before
 
-  abbrev number : List ℕ
-  number = decimal (word-printed .before .before .before .before .args .n)
+  abbrev number-text : List ℕ
+  number-text = decimal (word-printed .before .before .before .before .args .n)
 
-  number-printed : Continued (word-printed .print-bytes .last .0) (word-printed .print-bytes .result) (number ++ lineFeed) (longestDecimal + 1) (c .print-decimal-field .last .0) (c .print-decimal-field .result)
+  number-printed : Continued (word-printed .print-bytes .last .0) (word-printed .print-bytes .result) (number-text ++ lineFeed) (longestDecimal + 1) (c .print-decimal-field .last .0) (c .print-decimal-field .result)
   number-printed = c .print-decimal-field .ensures
 
 returns : tie.Need-returns
 unfolding refusalText
-returns c = let d = c .before .before in then-ended (number d) lineFeed (word-printed d .print-bytes .ensures) (number-printed d)
+returns c = let d = c .before .before in then-ended (number-text d) lineFeed (word-printed d .print-bytes .ensures) (number-printed d)
 
 pub print-refusal-spec : {M : Type 1} → statement M
 print-refusal-spec =

@@ -18,7 +18,7 @@ use Rattle.report.specs.Text.{lineText}
 use Rattle.numerals.specs.Steps.{Continued}
 use Rattle.numerals.proofs.Texts.{then, longer, nothing-printed}
 use Rattle.report.specs.Steps.{longestLine}
-use Rattle.report.proofs.Lines.{inside, more-lines}
+use Rattle.report.proofs.Lines.{section-within, more-lines}
 use Rattle.report.proofs.print_sections.Statement.{statement}
 use Rattle.report.proofs.print_sections.Tie as tie
 
@@ -45,7 +45,7 @@ unfolding image
 loop-holds c = (omega arith, refl, nothing-printed (c .before .before .args .text .now) (c .before .before .args .at))
 
 get-requires : tie.Need-get-requires Inv-loop μ-loop
-get-requires c κs = let s = c .before .before .before .before .before in omega (arith, inside (s .args .table .now) (s .args .g) (c .before .before .loop .i) (s .pre .1) (omega arith))
+get-requires c κs = let s = c .before .before .before .before .before in omega (arith, section-within (s .args .table .now) (s .args .g) (c .before .before .loop .i) (s .pre .1) (omega arith))
 
 loop-again : tie.Need-loop-again Inv-loop μ-loop
 loop-again c =

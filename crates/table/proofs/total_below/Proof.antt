@@ -7,15 +7,15 @@ use borrow.Author.Tests.{le-leb, lt-leb}
 use lib.IntN.{_+ℤ_}
 use Rattle.level.specs.Carry.{splitOf, totalOf}
 use Rattle.table.specs.Steps.{splitIn}
-use Rattle.table.proofs.Totals.{split-level, split-in-range}
+use Rattle.table.proofs.Totals.{split-level, splitIn-in-range}
 use Rattle.table.proofs.total_below.Statement.{statement}
 use Rattle.table.proofs.total_below.Tie as tie
 
 returns : tie.Need-returns
 returns c = let a = c .before .before .args in rw (lt-leb (a .d) (a .t) (c .before .if1 .taken)) (c .nothing .ensures)
 
-few : (c : tie.Start) → (c .args .a .count < 2 ^ 32) × (c .args .b .count < 2 ^ 32)
-few c = search needs
+counts-fit : (c : tie.Start) → (c .args .a .count < 2 ^ 32) × (c .args .b .count < 2 ^ 32)
+counts-fit c = search needs
 
 returns-2 : tie.Need-returns-2
 returns-2 c =
@@ -30,8 +30,8 @@ add-totals-requires : tie.Need-add-totals-requires
 add-totals-requires c κs =
     let s = c .before .before .before in
     let j = s .args .t - s .args .d in
-    let x = split-in-range (s .args .a) j (few s .0) (s .pre .1 .0) in
-    let y = split-in-range (s .args .b) j (few s .1) (s .pre .1 .1) in
+    let x = splitIn-in-range (s .args .a) j (counts-fit s .0) (s .pre .1 .0) in
+    let y = splitIn-in-range (s .args .b) j (counts-fit s .1) (s .pre .1 .1) in
     rw (c .before .split-in .ensures, c .split-in2 .ensures) (x .0, y .0, omega arith, omega arith)
 
 pub total-below-spec : {M : Type 1} → statement M
