@@ -5,7 +5,6 @@ use mathlib.Core.Bool.{true, false}
 use mathlib.Core.List.{List, [], _∷_, map}
 use mathlib.Core.Option.{some}
 use lib.IntN.{ℤ, pos, negℤ}
-use lib.ListN.{length}
 use lib.Ieee.{Float, binary64, ofBits, round}
 use Rattle.refusal.specs.Outcome.{Outcome, accepted, refused}
 use Rattle.level.specs.Level.{top, contribution, topOf, total}
@@ -14,23 +13,19 @@ use Rattle.codec.specs.Cells.{cells, image}
 use Rattle.record.specs.Layout.{encode, decode}
 use Rattle.record.specs.Keys.{rising}
 use Rattle.record.specs.Sound.{sound, soundRecords, soundRecord, soundTotal, isZero}
-use Rattle.record.specs.Section.{Section, sectionAt, kept, sectionBytes, find}
+use Rattle.record.specs.Section.{sectionAtTop, sectionOf, kept, sectionBytes, find}
 use Rattle.finish.specs.Sum.{nearestDouble, limit, tooLarge}
 use Rattle.finish.specs.Figure.{millFigure, beyond}
 use Rattle.finish.specs.Finish.{sumOf, figureOf, lineOutcome}
 use Rattle.finish.specs.declared.FinishedLine.{FinishedLine}
 
--- the section of these rows
-sectionOfRows : List ℕ → Section
-sectionOfRows bs = sectionAt 1 (length bs) (topOf bs) (total bs)
-
 -- the sum of the section of these rows
 sumOfRows : List ℕ → Outcome Float
-sumOfRows bs = sumOf (some (sectionOfRows bs))
+sumOfRows bs = sumOf (some (sectionOf 1 bs))
 
 -- the mill figure of the section of this row
 figureOfRow : ℕ → Outcome ℤ
-figureOfRow b = figureOf (some (sectionOfRows (b ∷ [])))
+figureOfRow b = figureOf (some (sectionOf 1 (b ∷ [])))
 
 -- the sum with these bits
 sumWithBits : ℕ → Outcome Float
@@ -92,7 +87,7 @@ figuresOfRows =
 
 -- the one claim
 cases : (map sumOfRows rowSets ≡ sumsOfRows) × (map figureOfRow figureRows ≡ figuresOfRows)
-unfolding sectionOfRows sumOfRows figureOfRow rowSets sumsOfRows figureRows figuresOfRows sumWithBits natural negated top contribution topOf total kept nearestDouble tooLarge millFigure beyond round ofBits
+unfolding sumOfRows figureOfRow rowSets sumsOfRows figureRows figuresOfRows sumWithBits natural negated top contribution topOf total sectionAtTop kept nearestDouble tooLarge millFigure beyond round ofBits
 cases = (refl, refl)
 
 -- at the bound of 14, and one unit of 2^-1074 below it

@@ -9,12 +9,12 @@ use native.Mathlib.Decide.{ℕ-discrete}
 use borrow.Author.Tests.{eq-eqb, ne-eqb, lt-ltb, le-ltb}
 use lib.Dec.{eqb}
 use Rattle.level.specs.Level.{topOf}
-use Rattle.record.specs.Section.{Section, find}
+use Rattle.record.specs.Section.{Section, find, sectionOf}
 use Rattle.columns.specs.Columns.{Row}
 use Rattle.table.specs.Combine.{ofRow, absorb, merged, added}
 use Rattle.table.proofs.Lookup.{Above, Rising, keysIn, Tri, less, same, more, tri, find-nil, find-head, find-tail, find-ext, absorb-rising, merged-rising, join, only, only-is, only-not, find-absorb, find-merged}
 use Rattle.history.specs.Rows.{sectionBits, insertKey, sectionNumbers}
-use Rattle.history.specs.Canonical.{sectionOf, sectionIf, canonical}
+use Rattle.history.specs.Canonical.{sectionIf, canonical}
 use Rattle.history.proofs.Sections.{section-key, row-section, join-sections}
 
 -- ---- the rows of a section

@@ -10,11 +10,11 @@ use lib.Seq.{take-at}
 use Rattle.level.specs.Level.{topOf}
 use Rattle.columns.specs.Columns.{Row}
 use Rattle.record.specs.Sound.{sound}
-use Rattle.record.specs.Section.{sectionBytes, find}
+use Rattle.record.specs.Section.{sectionBytes, find, sectionOf}
 use Rattle.lists.specs.Lists.{anyOf}
 use Rattle.table.proofs.Bytes.{length-sectionBytes}
 use Rattle.history.specs.Rows.{SameRows, sectionBits}
-use Rattle.history.specs.Canonical.{sectionOf, sectionIf, canonical}
+use Rattle.history.specs.Canonical.{sectionIf, canonical}
 use Rattle.history.specs.Calls.{Question, noRows}
 use Rattle.history.specs.Run.{Store, askTable, askRows, answers, answersRows, refuses}
 use Rattle.history.specs.Demand3.{History, empty, lengths, rows, table, used, sectionsIn, Demand3}

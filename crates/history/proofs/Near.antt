@@ -15,9 +15,8 @@ use Rattle.level.specs.Level.{levelBound, unit, top, levelSum, topOf, total, ex
 use Rattle.level.proofs.Given.{unit-suc}
 use Rattle.level.proofs.Top.{top-least}
 use Rattle.level.proofs.Section.{section-near, section-whole}
-use Rattle.record.specs.Section.{kept}
+use Rattle.record.specs.Section.{kept, sectionAtTop, sectionOf}
 use Rattle.history.specs.Rows.{largest}
-use Rattle.history.specs.Canonical.{sectionAtTop, sectionOf}
 
 -- ---- held at a top t
 module _ (k t : ℕ) (bs : List ℕ) where

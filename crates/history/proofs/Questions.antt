@@ -3,12 +3,11 @@ use Prim.Native.Nat.{ℕ}
 use mathlib.Core.Path.{_≡_, refl, ap}
 use mathlib.Core.Bool.{true, false}
 use mathlib.Core.List.{List}
-use mathlib.Core.Option.{Option, none, some}
-use Rattle.refusal.specs.Outcome.{Outcome, Ground, isRefusal, isGround}
-use Rattle.refusal.proofs.Outcomes.{not-given}
+use mathlib.Core.Option.{Option}
+use Rattle.refusal.specs.Outcome.{Outcome}
 use Rattle.record.specs.Sound.{sound}
 use Rattle.record.specs.Section.{Section, sections}
-use Rattle.finish.specs.Finish.{sumFor, figureFor, lineFor, sumGrounds, figureGrounds, finishedBy, finishing, sumOf, figureOf, lineOf}
+use Rattle.finish.specs.Finish.{sumFor, figureFor, lineFor, sumGrounds, figureGrounds, finishing, sumOf, figureOf, lineOf}
 use Rattle.finish.proofs.Outcomes.{finished-not}
 use Rattle.columns.specs.Columns.{Row}
 use Rattle.history.specs.Rows.{SameRows, sectionBits}

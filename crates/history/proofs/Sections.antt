@@ -13,7 +13,8 @@ use Rattle.columns.specs.Columns.{Row}
 use Rattle.table.specs.Combine.{ofRow, levelOf, combine}
 use Rattle.table.proofs.Combine.{levelOf-at, sectionAt-cong, sectionAt-combine, combine-comm}
 use Rattle.table.proofs.Lookup.{join, join-none}
-use Rattle.history.specs.Canonical.{sectionAtTop, sectionOf, sectionIf}
+use Rattle.record.specs.Section.{sectionAtTop, sectionOf}
+use Rattle.history.specs.Canonical.{sectionIf}
 
 -- ---- held at a top t
 pub section-key : (k t : ℕ) (bs : List ℕ) → (sectionAtTop k t bs) .key ≡ k

@@ -17,7 +17,7 @@ use Rattle.columns.specs.declared.Kind.{Kind}
 use Rattle.columns.specs.Columns.{Row, rowsOf}
 use Rattle.record.specs.Layout.{capacity}
 use Rattle.record.specs.Sound.{sound}
-use Rattle.record.specs.Section.{Section, sections, written}
+use Rattle.record.specs.Section.{Section, sections, written, sectionAtTop, sectionOf}
 use Rattle.table.specs.Combine.{added, merged}
 use Rattle.table.specs.Calls.{overflows, leaves, addSections, columnGrounds, addGrounds, addOutcome, mergeSections, mergeGrounds, mergeOutcome}
 use Rattle.lists.specs.Lists.{anyOf}
@@ -27,7 +27,7 @@ use Rattle.table.proofs.Lookup.{merged-length}
 use Rattle.table.proofs.Bytes.{written-over}
 use Rattle.table.proofs.Accepted.{ProperTable, proper-none, AcceptedTable, add-left, merge-left}
 use Rattle.history.specs.Rows.{sectionBits, sectionNumbers}
-use Rattle.history.specs.Canonical.{sectionAtTop, sectionOf, canonical}
+use Rattle.history.specs.Canonical.{canonical}
 use Rattle.history.specs.Calls.{tooManyRows, tooManyKeys, addRowsGrounds, addRowsOutcome, mergeRowsGrounds, mergeRowsOutcome, extended}
 use Rattle.history.specs.Run.{Store, after, afterAdd, afterMerge}
 use Rattle.history.proofs.Canonical.{added-canonical, merged-canonical}

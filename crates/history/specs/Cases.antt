@@ -12,7 +12,7 @@ use Rattle.refusal.specs.Outcome.{accepted, refused}
 use Rattle.level.specs.Level.{topFrom, top, given, contribution, topOf, total}
 use Rattle.columns.specs.declared.Kind.the-variants.{Double}
 use Rattle.columns.specs.Columns.{width, Row, rowsFrom, columnsFit, rowsOf}
-use Rattle.record.specs.Section.{Section, sections, written, find, kept}
+use Rattle.record.specs.Section.{Section, sections, written, find, kept, sectionAtTop}
 use Rattle.finish.specs.Sum.{tooLarge, nearestDouble}
 use Rattle.finish.specs.Figure.{millFigure, beyond}
 use lib.Ieee.{binary64, ofBits, round}
@@ -24,7 +24,7 @@ use Rattle.table.specs.Combine.{ofRow, levelOf, combine, absorb, merged, added}
 use Rattle.table.specs.Calls.{addGrounds, columnGrounds, mergeGrounds}
 use Rattle.lists.specs.Lists.{anyOf}
 use Rattle.history.specs.Rows.{sectionBits, insertKey, sectionNumbers}
-use Rattle.history.specs.Canonical.{sectionAtTop, canonical}
+use Rattle.history.specs.Canonical.{canonical}
 use Rattle.history.specs.Calls.{sum, figure, line, Call, add, merge, ask, tooManyRows, tooManyKeys, addRowsGrounds, mergeRowsGrounds, noRows, stepRows, ledgerAfter}
 use Rattle.history.specs.Run.{Store, State, noGroups, groupsAre, sumIs, figureIs, lineIs, step, stateAfter, askTable, answer, answers}
 

@@ -7,7 +7,7 @@ use lib.Dec.{eqb}
 use lib.IntN.{ℤ, pos, _+ℤ_, _*ℤ_}
 use lib.ListN.{length, drop}
 use Rattle.codec.specs.Cells.{image}
-use Rattle.level.specs.Level.{unit, below}
+use Rattle.level.specs.Level.{unit, below, topOf, total}
 use Rattle.level.specs.Carry.{splitOf, totalOf}
 use Rattle.record.specs.declared.Record.{Record}
 use Rattle.record.specs.Layout.{records, encode}
@@ -64,6 +64,14 @@ find k (t ∷ ts) = cond (eqb k (t .key)) (some t) (find k ts)
 -- the section with the three levels that the family f of totals has at top t; a level below 0 holds 0
 abbrev pub sectionAt : ℕ → ℕ → ℕ → (ℕ → ℤ) → Section
 sectionAt k n t f = record { key = k; count = n; top = t; high = below f t 0; middle = below f t 1; low = below f t 2 }
+
+-- section k of rows with the bits bs, held at top t: their number, t, and the sums of their contributions to the levels t, t - 1 and t - 2
+unfoldable pub sectionAtTop : ℕ → ℕ → List ℕ → Section
+sectionAtTop k t bs = sectionAt k (length bs) t (total bs)
+
+-- section k of rows with the bits bs: it is held at their largest top
+abbrev pub sectionOf : ℕ → List ℕ → Section
+sectionOf k bs = sectionAtTop k (topOf bs) bs
 
 -- document 01's kept value, in units of 2^-1074: the three totals, each times its unit
 unfoldable pub kept : Section → ℤ
