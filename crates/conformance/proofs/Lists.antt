@@ -2,12 +2,14 @@
 use Prim.Native.Nat.{ℕ}
 use mathlib.Core.Path.{_≡_, refl, sym, ap, ap₂, _∙_}
 use mathlib.Core.List.{List, [], _∷_}
-use Rattle.history.specs.Calls.{Call}
-use Rattle.history.specs.Run.{Store, State, Answer, stateAfter, answers, askTable}
-use Rattle.history.specs.Demand3.{History, empty, table, used}
+use Rattle.history.specs.Rows.{SameRows}
+use Rattle.history.specs.Calls.{Question, Call, ask}
+use Rattle.history.specs.Run.{Store, State, Answer, stateAfter, answer, answers, askTable}
+use Rattle.history.specs.Demand3.{History, empty, rows, table, used}
 use Rattle.history.proofs.Demand.{demand3}
 use Rattle.conformance.specs.Worked.{Worked, done, next, CarriedOut, WorkedIs}
 use Rattle.conformance.proofs.Steps.{steps}
+use Rattle.conformance.proofs.Possible.{all-possible}
 
 worked : (s : State) (cs : List Call) (xs : List Answer) (s′ : State) → Worked s cs xs s′ → (answers s cs ≡ xs) × (stateAfter s cs ≡ s′)
 unfolding answers stateAfter
@@ -22,17 +24,25 @@ worked s (c ∷ cs) (x ∷ xs) s″ (next {s′ = s′} p w) =
 table-is : (h : History) (xs : List Answer) (s : State) → CarriedOut h xs s → (i : ℕ) → s .tables i ≡ table h i
 table-is h xs s w i = ap (λ (t : State). t .tables i) (sym (worked (empty h) (h .calls) xs s w .1))
 
+same-table : (h h′ : History) (xs xs′ : List Answer) (s s′ : State) → CarriedOut h xs s → CarriedOut h′ xs′ s′ → (i j : ℕ) → SameRows (rows h i) (rows h′ j)
+    → (s .tables i .groups ≡ s′ .tables j .groups) × (used (s .tables i) ≡ used (s′ .tables j)) × ((q : Question) → askTable (s .tables i) q ≡ askTable (s′ .tables j) q)
+same-table h h′ xs xs′ s s′ w w′ i j e = (
+  ap (λ (t : Store). t .groups) (table-is h xs s w i) ∙ demand3 .same-groups h h′ i j e ∙ sym (ap (λ (t : Store). t .groups) (table-is h′ xs′ s′ w′ j)),
+  ap used (table-is h xs s w i) ∙ demand3 .same-bytes h h′ i j e ∙ sym (ap used (table-is h′ xs′ s′ w′ j)),
+  λ q. ap (λ (t : Store). askTable t q) (table-is h xs s w i) ∙ demand3 .same-answer h h′ i j q e ∙ sym (ap (λ (t : Store). askTable t q) (table-is h′ xs′ s′ w′ j)),
+)
+
 pub worked-is : WorkedIs
+unfolding answer
 worked-is = record {
   called-is = steps;
   as-listed = worked;
   answers-are = λ h xs s w. sym (worked (empty h) (h .calls) xs s w .0) ∙ demand3 .answered h;
   tables-are = table-is;
-  same-tables = λ h h′ xs xs′ s s′ w w′ i j e. (
-    ap (λ (t : Store). t .groups) (table-is h xs s w i) ∙ demand3 .same-groups h h′ i j e ∙ sym (ap (λ (t : Store). t .groups) (table-is h′ xs′ s′ w′ j)),
-    ap used (table-is h xs s w i) ∙ demand3 .same-bytes h h′ i j e ∙ sym (ap used (table-is h′ xs′ s′ w′ j)),
-    λ q. ap (λ (t : Store). askTable t q) (table-is h xs s w i) ∙ demand3 .same-answer h h′ i j q e ∙ sym (ap (λ (t : Store). askTable t q) (table-is h′ xs′ s′ w′ j)),
-  );
-  work-cleared = λ κs a z e l. l .1 .1;
-  girth-work-cleared = λ κs a z e l. l .1 .1;
+  same-tables = same-table;
+  same-finishings = λ h h′ xs xs′ s s′ w w′ i j e q x x′ t t′ c c′.
+      sym (steps s (ask i q) x t c .0) ∙ same-table h h′ xs xs′ s s′ w w′ i j e .2 q ∙ steps s′ (ask j q) x′ t′ c′ .0;
+  possible = all-possible;
+  buffer-cleared = λ κs a z e l. l .1 .1;
+  girth-buffer-cleared = λ κs a z e l. l .1 .1;
 }

@@ -2,7 +2,7 @@
 -- `Learnt`, of the arguments a, the result z and what was lent, e, at the call's end.
 use Prim.Native.Nat.{ℕ, suc}
 use mathlib.Core.Path.{_≡_}
-use mathlib.Core.Bool.{not, _&&_}
+use mathlib.Core.Bool.{not}
 use mathlib.Core.List.{List}
 use lib.Dec.{T, eqb}
 use lib.IntN.{ℤ, pos, negsuc}
@@ -60,11 +60,11 @@ valuesSaid x (negsuc n) = refused (suc n)
 
 -- in the state s the call answers x and leaves the state s′; a and e have what is lent and given in the order of the parameters, a at first and e at the end
 pub data Called (s : State) : Call → Answer → State → Type 1 where
-  -- table, group count, keys, values and work buffer; that the columns hold bytes is not said of a call's arguments
-  by-add : (i : ℕ) (κs : Lfts 4) (a : Dens κs addKinds.ps) (z : resT addKinds.r κs .Denot) (e : AtExit (endedOf 4 addKinds.ps addKinds.r) κs) (b : T (areBytes (now (a .1 .1 .0)) && areBytes (now (a .1 .1 .1 .0))))
+  -- table, group count, keys, values and work buffer; that the keys hold bytes is not said of a call's arguments
+  by-add : (i : ℕ) (κs : Lfts 4) (a : Dens κs addKinds.ps) (z : resT addKinds.r κs .Denot) (e : AtExit (endedOf 4 addKinds.ps addKinds.r) κs) (b : T (areBytes (now (a .1 .1 .0))))
       → Lent (s .tables i) (now (a .0)) (a .1 .0) → addReads.Learnt κs a z e
       → Called s (add i Double (now (a .1 .1 .0)) (now (a .1 .1 .1 .0)) b (length (now (a .1 .1 .1 .1 .0)))) (groupsAre (tableAnswer z)) (stateLeft s i (tableAnswer z) (now (e .0)))
-  by-girth-add : (i : ℕ) (κs : Lfts 4) (a : Dens κs girthAddKinds.ps) (z : resT girthAddKinds.r κs .Denot) (e : AtExit (endedOf 4 girthAddKinds.ps girthAddKinds.r) κs) (b : T (areBytes (now (a .1 .1 .0)) && areBytes (now (a .1 .1 .1 .0))))
+  by-girth-add : (i : ℕ) (κs : Lfts 4) (a : Dens κs girthAddKinds.ps) (z : resT girthAddKinds.r κs .Denot) (e : AtExit (endedOf 4 girthAddKinds.ps girthAddKinds.r) κs) (b : T (areBytes (now (a .1 .1 .0))))
       → Lent (s .tables i) (now (a .0)) (a .1 .0) → girthAddReads.Learnt κs a z e
       → Called s (add i Double (now (a .1 .1 .0)) (now (a .1 .1 .1 .0)) b (length (now (a .1 .1 .1 .1 .0)))) (groupsAre (countSaid z)) (stateLeft s i (countSaid z) (now (e .0)))
   -- the first table and its group count, another one and its group count

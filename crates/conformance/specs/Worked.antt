@@ -8,7 +8,7 @@ use denote.Triple.Clauses.{AtExit}
 use denote.Ref.{now}
 use Rattle.table.specs.Calls.{cleared}
 use Rattle.history.specs.Rows.{SameRows}
-use Rattle.history.specs.Calls.{Question, Call, noRows}
+use Rattle.history.specs.Calls.{Question, Call, ask, noRows}
 use Rattle.history.specs.Run.{State, Answer, step, stateAfter, answer, answers, answersRows, askTable}
 use Rattle.history.specs.Demand3.{History, empty, lengths, rows, table, used}
 use Rattle.add.proofs.add.Reads as addReads
@@ -37,8 +37,13 @@ pub record WorkedIs : Type 1 where
   -- and after any two ways of working tables with the same rows have the same group count, used bytes and answers
   pub same-tables : (h h′ : History) (xs xs′ : List Answer) (s s′ : State) → CarriedOut h xs s → CarriedOut h′ xs′ s′ → (i j : ℕ) → SameRows (rows h i) (rows h′ j)
       → (s .tables i .groups ≡ s′ .tables j .groups) × (used (s .tables i) ≡ used (s′ .tables j)) × ((q : Question) → askTable (s .tables i) q ≡ askTable (s′ .tables j) q)
+  -- and every finishing call answers alike in the two
+  pub same-finishings : (h h′ : History) (xs xs′ : List Answer) (s s′ : State) → CarriedOut h xs s → CarriedOut h′ xs′ s′ → (i j : ℕ) → SameRows (rows h i) (rows h′ j)
+      → (q : Question) (x x′ : Answer) (t t′ : State) → Called s (ask i q) x t → Called s′ (ask j q) x′ t′ → x ≡ x′
+  -- every list of calls can be carried out
+  pub possible : (s : State) (cs : List Call) → (xs : List Answer) × (s′ : State) × Worked s cs xs s′
   -- an add leaves only zeros in its work buffer
-  pub work-cleared : (κs : Lfts 4) (a : Dens κs addKinds.ps) (z : resT addKinds.r κs .Denot) (e : AtExit (endedOf 4 addKinds.ps addKinds.r) κs) → addReads.Learnt κs a z e
+  pub buffer-cleared : (κs : Lfts 4) (a : Dens κs addKinds.ps) (z : resT addKinds.r κs .Denot) (e : AtExit (endedOf 4 addKinds.ps addKinds.r) κs) → addReads.Learnt κs a z e
       → now (e .1 .1 .1 .1 .0) ≡ cleared (now (a .1 .1 .1 .1 .0))
-  pub girth-work-cleared : (κs : Lfts 4) (a : Dens κs girthAddKinds.ps) (z : resT girthAddKinds.r κs .Denot) (e : AtExit (endedOf 4 girthAddKinds.ps girthAddKinds.r) κs)
+  pub girth-buffer-cleared : (κs : Lfts 4) (a : Dens κs girthAddKinds.ps) (z : resT girthAddKinds.r κs .Denot) (e : AtExit (endedOf 4 girthAddKinds.ps girthAddKinds.r) κs)
       → girthAddReads.Learnt κs a z e → now (e .1 .1 .1 .1 .0) ≡ cleared (now (a .1 .1 .1 .1 .0))

@@ -1,7 +1,7 @@
 -- Each call keeps it that every table holds its rows in the ledger, and is answered by the ledger; so both hold over every list of calls.
 use Prim.Native.Nat.{ℕ}
 use mathlib.Core.Path.{_≡_, refl, ap, ap₂}
-use mathlib.Core.Bool.{false, _&&_}
+use mathlib.Core.Bool.{false}
 use mathlib.Core.List.{List, [], _∷_}
 use native.Mathlib.Decide.{ℕ-discrete}
 use borrow.Author.Tests.{eq-eqb, ne-eqb}
@@ -40,7 +40,7 @@ module _ (initial : ℕ → List ℕ) where
     step-agrees : (c : Call) → Agrees initial (step s c) (stepRows lens l c)
     unfolding step stepRows
     step-agrees (add i kind ks vs b workLen) =
-        agrees-set s l a i _ _ (add-holds (initial i) (s .tables i) (l .rows i) (a .tables i) kind ks vs workLen (is-true (areBytes ks && areBytes vs) b))
+        agrees-set s l a i _ _ (add-holds (initial i) (s .tables i) (l .rows i) (a .tables i) kind ks vs workLen (is-true (areBytes ks) b))
     step-agrees (merge i j d) =
         agrees-set s l a i _ _ (merge-holds (initial i) (s .tables i) (l .rows i) (a .tables i) (initial j) (s .tables j) (l .rows j) (a .tables j))
     step-agrees (ask i q) = a

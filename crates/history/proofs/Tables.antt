@@ -2,7 +2,7 @@
 -- that the call leaves.
 use Prim.Native.Nat.{ℕ, zero, suc, _≤_}
 use mathlib.Core.Path.{_≡_, refl, sym, _∙_, ap, ap₂, subst}
-use mathlib.Core.Bool.{true, _&&_}
+use mathlib.Core.Bool.{true}
 use mathlib.Core.List.{List, [], _∷_, _++_}
 use native.Mathlib.Omega.{arith}
 use borrow.Author.Tests.{ltb-true}
@@ -100,14 +100,14 @@ module _ (initial : List ℕ) (t : Store) (rows : List Row) (h : HoldsRows initi
           length-canonical (rows ++ rowsOf kind ks vs),
         )
 
-    pub add-holds : (areBytes ks && areBytes vs) ≡ true
+    pub add-holds : areBytes ks ≡ true
         → HoldsRows initial (afterAdd kind t ks vs workLen) (extended (addRowsOutcome kind (length initial) rows ks vs workLen) rows (rowsOf kind ks vs))
     add-holds b =
         subst (λ (o : Outcome ℕ). HoldsRows initial (afterAdd kind t ks vs workLen) (extended o rows (rowsOf kind ks vs))) add-outcome
         (after-holds (rowsOf kind ks vs) (addSections kind (t .buffer) (t .groups) ks vs)
         (ap (λ (ts : List Section). added ts (rowsOf kind ks vs)) (h .has-sections) ∙ added-canonical rows (rowsOf kind ks vs))
         (addOutcome kind (t .buffer) (t .groups) ks vs workLen)
-        (λ n. add-left (t .buffer) (t .groups) (h .table) kind ks vs workLen (are-bytes ks (both-true (areBytes ks) (areBytes vs) b .0))))
+        (λ n. add-left (t .buffer) (t .groups) (h .table) kind ks vs workLen (are-bytes ks b)))
 
   module _ (initial′ : List ℕ) (u : Store) (others : List Row) (g : HoldsRows initial′ u others) where
     pub merge-outcome : mergeOutcome (t .buffer) (t .groups) (u .buffer) (u .groups) ≡ mergeRowsOutcome (length initial) rows others

@@ -1,6 +1,6 @@
 -- Lists of calls, and the rows of every table, read off the calls alone.
 use Prim.Native.Nat.{ℕ}
-use mathlib.Core.Bool.{Bool, not, cond, _&&_}
+use mathlib.Core.Bool.{Bool, not, cond}
 use mathlib.Core.List.{List, [], _∷_, _++_}
 use lib.Dec.{T, ltb, eqb}
 use lib.ListN.{length}
@@ -17,10 +17,10 @@ use Rattle.history.specs.Rows.{sectionBits, sectionNumbers}
 pub data Question : Type 0 where
   sum figure line : (key : ℕ) → Question
 
--- a call on tables named by numbers: an add to table i of two columns with values of some kind, which hold bytes as every slice does, with the length of the
--- lent work buffer; a merge of table j into a different table i; a question about table i
+-- a call on tables named by numbers: an add to table i of two columns with values of some kind, of which the keys hold bytes as every slice does, with the
+-- length of the lent work buffer, which is no table; a merge of table j into a different table i; a question about table i
 pub data Call : Type 0 where
-  add : (i : ℕ) (kind : Kind) (keys values : List ℕ) → T (areBytes keys && areBytes values) → (workLen : ℕ) → Call
+  add : (i : ℕ) (kind : Kind) (keys values : List ℕ) → T (areBytes keys) → (workLen : ℕ) → Call
   merge : (i j : ℕ) → T (not (eqb i j)) → Call
   ask : (i : ℕ) → Question → Call
 

@@ -1,7 +1,6 @@
 -- Worked examples, computed from the definitions: small lists of calls, and the tables that they leave.
 use Prim.Native.Nat.{ℕ}
 use mathlib.Core.Path.{_≡_, refl}
-use mathlib.Core.Bool.{_&&_}
 use mathlib.Core.List.{List, [], _∷_, map}
 use lib.Dec.{T}
 use lib.ListN.{replicate}
@@ -37,7 +36,7 @@ abbrev emptyTables : State
 emptyTables = noGroups (λ i. lentBuffer)
 
 -- an add to table i of rows given by their keys and bits
-abbrev addTo : (i : ℕ) (ks vs : List ℕ) → T (areBytes (image (bytes 4) ks) && areBytes (image (bytes (width Double)) vs)) → Call
+abbrev addTo : (i : ℕ) (ks vs : List ℕ) → T (areBytes (image (bytes 4) ks)) → Call
 addTo i ks vs b = add i Double (image (bytes 4) ks) (image (bytes (width Double)) vs) b 128
 
 -- an add that is refused, since three key bytes are no column
@@ -53,7 +52,7 @@ leftInTable0 : List Call → Store
 unfolding stateAfter step answers answer askTable addGrounds columnGrounds mergeGrounds sound rising cells soundRecords soundRecord soundTotal isZero columnsFit image bytes anyOf rowsOf rowsFrom number numberAt added merged absorb combine levelOf ofRow top topFrom given contribution encode decode
 leftInTable0 cs = stateAfter emptyTables cs .tables 0
 
--- the same rows in one add, in another order, in two fourAdds, merged from another table, merged the other way round, and with a refused add between
+-- the same rows in one add, in another order, in two adds, merged from another table, merged the other way round, and with a refused add between
 ways : List (List Call)
 unfolding image bytes
 ways =

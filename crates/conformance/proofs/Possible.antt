@@ -1,0 +1,50 @@
+-- Every call can be made by a contract: the exported one, with what its outcome says returned and written out.
+use Prim.Native.Nat.{ℕ}
+use mathlib.Core.Path.{refl, subst}
+use mathlib.Core.List.{List, [], _∷_}
+use lib.IntN.{ℤ, pos}
+use lib.ListN.{length, replicate, length-replicate}
+use denote.Ref.{RefT, now}
+use Rattle.columns.specs.declared.Kind.the-variants.{Double}
+use Rattle.table.specs.Calls.{addOutcome, addLeaves, cleared, mergeOutcome, mergeLeaves}
+use Rattle.finish.specs.Finish.{sumOutcome, figureOutcome, lineOutcome}
+use Rattle.finish.specs.declared.FinishedLine.{FinishedLine}
+use Rattle.exports.specs.Calls.{returnsCount, returnsZero, writes, doubleBits}
+use Rattle.history.specs.Calls.{sum, figure, line, Call, add, merge, ask}
+use Rattle.history.specs.Run.{State, Answer}
+use Rattle.conformance.specs.Called.{Called, by-girth-add, by-girth-merge, by-girth-sum, by-girth-figure, by-girth-line}
+use Rattle.conformance.specs.Worked.{Worked, done, next}
+
+-- a reference to x, wherever it stands
+abbrev ref : {X : Type 0} → X → RefT X
+ref x = record { ptr = (0, 0); name = 0; now = x }
+
+one-possible : (s : State) (c : Call) → (x : Answer) × (s′ : State) × Called s c x s′
+one-possible s (ask i (sum k)) =
+    let b = s .tables i .buffer in let g = s .tables i .groups in
+    (_, _, by-girth-sum i ([], ([], tt)) (ref b, (g, (k, (ref 0, tt)))) (returnsZero (sumOutcome b g k)) (ref b, (g, (k, (ref (writes 0 doubleBits (sumOutcome b g k)), tt)))) (refl, refl) (refl, refl))
+one-possible s (ask i (figure k)) =
+    let b = s .tables i .buffer in let g = s .tables i .groups in
+    (_, _, by-girth-figure i ([], ([], tt)) (ref b, (g, (k, (ref (pos 0), tt)))) (returnsZero (figureOutcome b g k)) (ref b, (g, (k, (ref (writes (pos 0) (λ (z : ℤ). z) (figureOutcome b g k)), tt)))) (refl, refl) (refl, refl))
+one-possible s (ask i (line k)) =
+    let b = s .tables i .buffer in let g = s .tables i .groups in let o = lineOutcome b g k in (
+      _,
+      _,
+      by-girth-line i ([], ([], ([], ([], tt)))) (ref b, (g, (k, (ref 0, (ref 0, (ref (pos 0), tt)))))) (returnsZero o)
+          (ref b, (g, (k, (ref (writes 0 (λ (l : FinishedLine). l .count) o), (ref (writes 0 (λ (l : FinishedLine). doubleBits (l .sum)) o), (ref (writes (pos 0) (λ (l : FinishedLine). l .figure) o), tt)))))) (refl, refl) (refl, (refl, (refl, refl))),
+    )
+one-possible s (merge i j d) =
+    let b = s .tables i .buffer in let g = s .tables i .groups in let b′ = s .tables j .buffer in let g′ = s .tables j .groups in
+    (_, _, by-girth-merge i j d ([], ([], tt)) (ref b, (g, (ref b′, (g′, tt)))) (returnsCount (mergeOutcome b g b′ g′)) (ref (mergeLeaves b g b′ g′), (g, (ref b′, (g′, tt)))) (refl, refl) (refl, refl) (refl, refl))
+one-possible s (add i Double ks vs p n) =
+    let b = s .tables i .buffer in let g = s .tables i .groups in let w : List ℕ = replicate {A = ℕ} n 0 in
+    subst (λ (m : ℕ). (x : Answer) × (s′ : State) × Called s (add i Double ks vs p m) x s′) (length-replicate n 0) (
+      _,
+      _,
+      by-girth-add i ([], ([], ([], ([], tt)))) (ref b, (g, (ref ks, (ref vs, (ref w, tt))))) (returnsCount (addOutcome Double b g ks vs (length w)))
+          (ref (addLeaves Double b g ks vs (length w)), (g, (ref ks, (ref vs, (ref (cleared w), tt))))) p (refl, refl) (refl, (refl, refl)),
+    )
+
+pub all-possible : (s : State) (cs : List Call) → (xs : List Answer) × (s′ : State) × Worked s cs xs s′
+all-possible s [] = ([], s, done)
+all-possible s (c ∷ cs) = let p = one-possible s c in let w = all-possible (p .1) cs in (p .0 ∷ w .0, w .1, next (p .2) (w .2))
