@@ -33,6 +33,7 @@ ONE = {
     "figure": "a section's mill figure: the call, its question, its field in a line, the case that carries it",
     "line": "a section's finished line: the call, its question, the case that carries it",
     "look_up": "the record of a section: the function, and the enum of what it finds",
+    "address": "where a returned part stands",
     "content": "the bytes that the caller has afterwards, of a part returned or of a buffer lent",
     "work": "the work buffer: what is lent, and what it holds after the call",
     "Absent": "a section without a row: the sum's case, and the claim about it",
@@ -97,7 +98,7 @@ ONE = {
 # parameters of two types
 TWO_TYPES = {"sum"}
 ONE |= {f"limb{i}": "the bound of a limb" for i in range(4)}
-ONE |= {f"of-{call}": "what is said of this call's contract" for call in ("keys", "values", "read", "key-start", "value-start", "report", "girth-read", "girth-report")}
+ONE |= {f"of-{call}": "what is said of this call's contract" for call in ("keys", "values", "read", "key-start", "value-start", "report", "girth-read", "girth-report", "girth-sum", "girth-figure", "girth-line")}
 
 NAME = r"[^\s:(){}.,;]+"
 
@@ -162,6 +163,7 @@ def spec_parameters(text):
 
 
 def clauses(text):
+    """The clauses of a file's contracts, each function's for itself."""
     return re.findall(r"(?:ensures|requires) ([\w-]+) \{", text)
 
 
@@ -184,29 +186,40 @@ def renamed(text):
         yield from (n.strip() for n in names.split(",") if " as " in n)
 
 
-def tied(text, definitions):
+def amount(value):
+    """What a constant's value or a definition's right side comes to, where that is plain arithmetic."""
+    plain = value.replace("<<", " * 2 ** ").replace("^", "**")
+    return eval(plain) if re.fullmatch(r"[\d\s()*+<>-]+", plain) else None
+
+
+def tied(text, definitions, values):
     """The words of a file of code that name what a definition of another spelling gives: a function whose contract cites it, or a constant."""
     for name, _, contract in functions(text):
         if definitions.get(folded(name), name) != name and definitions[folded(name)] in contract:
             yield name
-    yield from (c for c in re.findall(r"^(?:pub )?const (\w+)", text, re.M) if folded(c) in definitions)
+    for name, value in re.findall(r"^(?:pub )?const (\w+): \w+ = (.*);", text, re.M):
+        if folded(name) in definitions:
+            amounts = {amount(value), values.get(folded(name))}
+            if None in amounts or len(amounts) == 1:
+                yield name
 
 
 def main():
     places, types, taken, bad = collections.defaultdict(list), collections.defaultdict(set), set(), []
     specs = sorted(CRATES.glob("*/specs/**/*.antt"))
     codes = sorted(f for f in CRATES.glob("*/src/**/*.rt") if f.name != "main.rt")
-    parameters, definitions = set(), {}
+    parameters, definitions, values = set(), {}, {}
     for f in specs:
         text, name = f.read_text(), str(f.relative_to(CRATES))
         for word in [*spec_words(text), *modules(text)]:
             places[folded(word)].append((word, name))
             definitions.setdefault(folded(word), word)
+        values |= {folded(word): amount(right) for word, right in re.findall(rf"^({NAME}) = (.*)$", text, re.M)}
         parameters |= set(spec_parameters(text))
     for f in codes:
         text, name = f.read_text(), str(f.relative_to(CRATES))
-        paired = set(tied(text, definitions))
-        for word in [*code_words(text), *set(clauses(text)), *modules(text)]:
+        paired = set(tied(text, definitions, values))
+        for word in [*code_words(text), *clauses(text), *modules(text)]:
             if word not in paired:
                 places[folded(word)].append((word, name))
         for _, named, _ in functions(text):

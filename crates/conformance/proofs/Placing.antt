@@ -1,15 +1,20 @@
 -- The calls on a file say what their contracts say, and the parts that the reader hands back stand where their columns start.
-use Prim.Native.Nat.{ℕ, _+_, _-_, _<_}
+use Prim.Native.Nat.{ℕ, _+_, _-_, _*_, _<_}
 use mathlib.Core.Path.{_≡_, sym, ap, _∙_}
 use mathlib.Core.List.{List}
 use native.Mathlib.Omega.{arith}
-use lib.ListN.{length}
+use lib.IntN.{ℤ}
+use lib.ListN.{length, take, drop}
 use denote.Ref.{now}
 use Rattle.refusal.specs.Outcome.{Outcome, accepted}
 use Rattle.columns.specs.declared.Kind.the-variants.{Double}
-use Rattle.patch.specs.File.{readOutcome, columnStart, keyDistance, valueDistance, addressAfter}
+use Rattle.patch.specs.File.{readOutcome, keyColumn, valueColumn, column, columnStart, keyDistance, valueDistance, addressAfter}
+use Rattle.exports.specs.Calls.{returnsCount}
+use Rattle.conformance.specs.Called.{countSaid}
+use Rattle.conformance.specs.Exported.{Exported}
 use Rattle.conformance.specs.Files.{Files}
 use Rattle.conformance.specs.Parts.{Parts}
+use Rattle.conformance.proofs.Steps.{counted, read-not-0}
 
 -- a column that starts past the front does not stand at the front's place
 not-in-front : (o : Outcome ℕ) (d : ℕ) (f : List ℕ) (p : ℕ × ℕ) → o ≡ accepted 0 → d < length f → addressAfter p (columnStart o d f) ≡ p → ⊥
@@ -27,12 +32,35 @@ parts = record {
   values-not-in-front = λ κs a z e l r h q. not-in-front (readOutcome Double (now (a .0))) (valueDistance (now (a .0))) (now (a .0)) (a .0 .ptr) r h (sym (l .1) ∙ q);
 }
 
+-- the number that the reader returns says its outcome
+read-said : (f : List ℕ) {z : ℤ} → z ≡ returnsCount (readOutcome Double f) → countSaid z ≡ readOutcome Double f
+read-said f q = counted (readOutcome Double f) (read-not-0 f) q
+
+-- the column of an accepted file stands where it starts
+column-there : (cell n d : ℕ) (f : List ℕ) → readOutcome Double f ≡ accepted n → take (cell * n) (drop (columnStart (readOutcome Double f) d f) f) ≡ column (readOutcome Double f) cell d f
+unfolding column columnStart
+column-there cell n d f e = rw e
+
 pub files : Files
+unfolding keyColumn valueColumn
 files = record {
   of-read = λ κs a z e l. l;
   of-key-start = λ κs a z e l. l;
   of-value-start = λ κs a z e l. l;
   of-girth-read = λ κs a z e l. (l .0, l .1 .0, l .1 .1);
+  columns-there = λ κs a z e l n q.
+      let f = now (a .0) in
+      let o = sym (read-said f (l .0)) ∙ q in (
+        ap (λ (i : ℕ). take (4 * n) (drop i f)) (l .1 .0) ∙ column-there 4 n (keyDistance f) f o,
+        ap (λ (i : ℕ). take (8 * n) (drop i f)) (l .1 .1) ∙ column-there 8 n (valueDistance f) f o,
+      );
   of-report = λ κs a z e l. l;
   of-girth-report = λ κs a z e l. l;
+}
+
+pub exported : Exported
+exported = record {
+  of-girth-sum = λ κs a z e l. l;
+  of-girth-figure = λ κs a z e l. l;
+  of-girth-line = λ κs a z e l. (l .0, l .1 .0, l .1 .1 .0, l .1 .1 .1);
 }

@@ -12,6 +12,7 @@ use Rattle.lists.proofs.Booleans.{never}
 use Rattle.refusal.specs.Outcome.{Outcome, accepted, refused, Ground, isRefusal, isGround}
 use Rattle.refusal.proofs.Outcomes.{not-given}
 use Rattle.columns.specs.declared.Kind.the-variants.{Double}
+use Rattle.patch.specs.File.{rowCount, readGrounds, readOutcome}
 use Rattle.table.specs.Calls.{columnGrounds, addGrounds, addSections, addOutcome, mergeGrounds, mergeSections, mergeOutcome}
 use Rattle.record.specs.Sound.{sound}
 use Rattle.record.specs.Section.{Section, kept, sections, find}
@@ -33,10 +34,10 @@ count-said (refused zero) e = never (cc)
 count-said (refused (suc n)) e = refl
 
 -- from a number z that a call returned for o
-counted : (o : Outcome ℕ) → isRefusal 0 o ≡ false → {z : ℤ} → z ≡ returnsCount o → countSaid z ≡ o
+pub counted : (o : Outcome ℕ) → isRefusal 0 o ≡ false → {z : ℤ} → z ≡ returnsCount o → countSaid z ≡ o
 counted o n q = ap countSaid q ∙ count-said o n
 
--- from z and the values y that it wrote out, which f reads
+-- from z and the values y that it wrote out, which are those of an accepted o
 given-out : {A : Type 0} (o : Outcome A) (y : A) {z : ℤ} → isRefusal 0 o ≡ false → ((x : A) → o ≡ accepted x → y ≡ x) → z ≡ returnsZero o → valuesSaid y z ≡ o
 unfolding isRefusal
 given-out {A} o y n f q = ap (valuesSaid y) q ∙ by o n f
@@ -50,6 +51,10 @@ given-out {A} o y n f q = ap (valuesSaid y) q ∙ by o n f
 add-not-0 : (s : List ℕ) (g : ℕ) (ks vs : List ℕ) (workLen : ℕ) → isRefusal 0 (addOutcome Double s g ks vs workLen) ≡ false
 unfolding addGrounds columnGrounds
 add-not-0 s g ks vs workLen = not-given 0 (addGrounds Double s g ks vs workLen) (length (addSections Double s g ks vs)) refl
+
+pub read-not-0 : (f : List ℕ) → isRefusal 0 (readOutcome Double f) ≡ false
+unfolding readOutcome readGrounds
+read-not-0 f = not-given 0 (readGrounds Double f) (rowCount f) refl
 
 merge-not-0 : (s : List ℕ) (g : ℕ) (s′ : List ℕ) (g′ : ℕ) → isRefusal 0 (mergeOutcome s g s′ g′) ≡ false
 unfolding mergeGrounds

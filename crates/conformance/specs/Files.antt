@@ -1,15 +1,20 @@
 -- The calls on a file, as their callers learn them: what the reader and the report answer and leave.
+use Prim.Native.Nat.{ℕ, _*_}
 use mathlib.Core.Path.{_≡_}
+use lib.ListN.{take, drop}
 use contract.Lifetimes.{Lfts}
 use borrow.Fn.Kinds.{Dens, endedOf, resT}
 use denote.Triple.Clauses.{AtExit}
 use denote.Ref.{now}
 use Rattle.columns.specs.declared.Kind.the-variants.{Double}
-use Rattle.patch.specs.File.{readOutcome, keyStart, valueStart}
+use Rattle.columns.specs.Columns.{width}
+use Rattle.refusal.specs.Outcome.{accepted}
+use Rattle.patch.specs.File.{readOutcome, keyColumn, valueColumn, keyStart, valueStart}
 use Rattle.patch.specs.Answer.{readAnswer}
 use Rattle.report.specs.Text.{reportText}
 use Rattle.report.specs.Answer.{printedAnswer, printOutcome, printLeaves}
 use Rattle.exports.specs.Calls.{returnsCount}
+use Rattle.conformance.specs.Called.{countSaid}
 use Rattle.patch.proofs.read.Reads as readReads
 use Rattle.patch.proofs.read.Kinds as readKinds
 use Rattle.patch.proofs.key_start.Reads as keyStartReads
@@ -31,6 +36,9 @@ pub record Files : Type 1 where
   pub of-value-start : (κs : Lfts 1) (a : Dens κs valueStartKinds.ps) (z : resT valueStartKinds.r κs .Denot) (e : AtExit (endedOf 1 valueStartKinds.ps valueStartKinds.r) κs) → valueStartReads.Learnt κs a z e → z ≡ valueStart Double (now (a .0))
   pub of-girth-read : (κs : Lfts 3) (a : Dens κs girthReadKinds.ps) (z : resT girthReadKinds.r κs .Denot) (e : AtExit (endedOf 3 girthReadKinds.ps girthReadKinds.r) κs) → girthReadReads.Learnt κs a z e
       → (z ≡ returnsCount (readOutcome Double (now (a .0)))) × (now (e .1 .0) ≡ keyStart Double (now (a .0))) × (now (e .1 .1 .0) ≡ valueStart Double (now (a .0)))
+  -- so the columns of an accepted file stand at these starts
+  pub columns-there : (κs : Lfts 3) (a : Dens κs girthReadKinds.ps) (z : resT girthReadKinds.r κs .Denot) (e : AtExit (endedOf 3 girthReadKinds.ps girthReadKinds.r) κs) → girthReadReads.Learnt κs a z e → (n : ℕ) → countSaid z ≡ accepted n
+      → (take (4 * n) (drop (now (e .1 .0)) (now (a .0))) ≡ keyColumn Double (now (a .0))) × (take (width Double * n) (drop (now (e .1 .1 .0)) (now (a .0))) ≡ valueColumn Double (now (a .0)))
   pub of-report : (κs : Lfts 2) (a : Dens κs reportKinds.ps) (z : resT reportKinds.r κs .Denot) (e : AtExit (endedOf 2 reportKinds.ps reportKinds.r) κs) → reportReads.Learnt κs a z e
       → (printedAnswer z ≡ printOutcome (now (a .1 .0)) (reportText (now (a .0)))) × (now (e .1 .0) ≡ printLeaves (now (a .1 .0)) (reportText (now (a .0))))
   pub of-girth-report : (κs : Lfts 2) (a : Dens κs girthReportKinds.ps) (z : resT girthReportKinds.r κs .Denot) (e : AtExit (endedOf 2 girthReportKinds.ps girthReportKinds.r) κs) → girthReportReads.Learnt κs a z e

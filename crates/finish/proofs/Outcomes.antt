@@ -1,6 +1,6 @@
 -- The figure and the line, from the sum; and what an outcome of finishing says of the table. The idea: sum, figure and line differ only in their conditions and
 -- values, so that each case split (by the kept value's size, by the table and the section, by a lookup) serves all three.
-use mathlib.Core.Path.{_≡_, refl, sym, ap, subst}
+use mathlib.Core.Path.{_≡_, refl, sym, ap, _∙_, subst}
 use mathlib.Core.Bool.{Bool, true, false, not, cond}
 use mathlib.Core.List.{List, [], _∷_}
 use mathlib.Core.Option.{Option, none, some}
@@ -13,7 +13,7 @@ use lib.Ieee.Bits.{ofBits-toBits}
 use lib.Ieee.Fits.{round-fits}
 use lib.Ieee.Scale.{finite}
 use Rattle.lists.proofs.Booleans.{never}
-use Rattle.refusal.specs.Outcome.{Outcome, accepted, refused, Ground, ground, outcome, IsLowest, risingFrom, isRefusal, isGround}
+use Rattle.refusal.specs.Outcome.{Outcome, accepted, refused, Ground, ground, outcome, condition, IsLowest, risingFrom, isRefusal, isGround}
 use Rattle.refusal.proofs.Outcomes.{accepted≢refused, accepted-not, accepted-value, lowest, refused-alike, not-given}
 use Rattle.record.specs.Sound.{sound, soundRecord}
 use Rattle.record.specs.Section.{Section, kept, meaning, sections, find}
@@ -106,6 +106,15 @@ module _ {A : Type 0} (gs : Section → List Ground) (v : Section → A) (s : Li
       by true none q = ap refused cc
       by true (some t) q = refused-alike (gs t) (v t) n q
 
+  -- one that is accepted has none whose condition holds
+  pub finishing-accepted : {x : A} → finishing (finishedBy gs v) s g k ≡ accepted x → (n : ℕ) → condition n (finishingGrounds gs s g k) ≡ false
+  finishing-accepted {x} e n = accepted-not n (finishingGrounds gs s g k) x (by (sound s g) (find k (sections s g)) e)
+    where
+      by : (b : Bool) (o : Option Section) → cond b (finishedBy gs v o) (refused 7) ≡ accepted x → outcome (ground 7 (not b) ∷ foundGrounds gs o) x ≡ accepted x
+      by false o q = absurd (accepted≢refused q)
+      by true none q = absurd (accepted≢refused q)
+      by true (some t) q = ap (outcome (gs t)) (sym (accepted-value (gs t) (v t) q)) ∙ q
+
 -- a number that is neither 13 nor one of the section's own is not given
 pub finished-not : {A : Type 0} (n : ℕ) (gs : Section → List Ground) (v : Section → A) → eqb n 13 ≡ false → ((t : Section) → isGround n (gs t) ≡ false) → (o : Option Section) → isRefusal n (finishedBy gs v o) ≡ false
 unfolding isRefusal
@@ -132,7 +141,7 @@ finite-outcome (Finite x) s g k e = let t = section-given sumGrounds sumFor s g 
 pub finite-line : (l : FinishedLine) (s : List ℕ) (g k : ℕ) → accepted l ≡ lineOutcome s g k → T (finite (l .sum))
 finite-line l s g k e = let t = section-given figureGrounds lineFor s g k l e in line-given (t .0) l (t .1) .finite-sum
 
--- its bits are read back as the float itself
+-- the double nearest to k units is read back from its bits
 pub double-back : (k : ℤ) → ofBits binary64 (toBits binary64 (nearestDouble k)) ≡ nearestDouble k
 unfolding nearestDouble
 double-back k = ofBits-toBits binary64 (nearestDouble k) (round-fits binary64 (not (nonNeg k)) (natAbs k) (2 ^ 1074))

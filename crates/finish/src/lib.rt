@@ -88,25 +88,25 @@ fn raise() -> [u64; 4]
     [0, 1 << 32, 1 << 32, 1 << 32]
 }
 
-// The bits with the sign set.
-fn set_sign(bits: u64) -> u64
-    requires { ⌜ bits < 2 ^ 63 ⌝ }
-    ensures { λ r. ⌜ r ≡ bits + 2 ^ 63 ⌝ }
+// The 63 bits without a sign, with it set.
+fn set_sign(unsigned: u64) -> u64
+    requires { ⌜ unsigned < 2 ^ 63 ⌝ }
+    ensures { λ r. ⌜ r ≡ unsigned + 2 ^ 63 ⌝ }
 {
-    bits | (1 << 63)
+    unsigned | (1 << 63)
 }
 
 // The sum that a sign and the other 63 bits stand for.
-fn sum_of_bits(bits: u64, negative: bool) -> SectionSum
-    ensures { λ r. ⌜ r ≡ sumOfBits bits negative ⌝ }
+fn sum_of_bits(unsigned: u64, negative: bool) -> SectionSum
+    ensures { λ r. ⌜ r ≡ sumOfBits unsigned negative ⌝ }
 {
-    if bits >= 2047 << 52 {
+    if unsigned >= 2047 << 52 {
         return SectionSum::TooLarge;
     }
     if negative {
-        return SectionSum::Finite(f64::from_bits(set_sign(bits)));
+        return SectionSum::Finite(f64::from_bits(set_sign(unsigned)));
     }
-    SectionSum::Finite(f64::from_bits(bits))
+    SectionSum::Finite(f64::from_bits(unsigned))
 }
 
 // The sum of a sound record: the double nearest to its kept value, whose first limb counts level top - 2.

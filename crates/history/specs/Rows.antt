@@ -16,7 +16,7 @@ unfoldable pub occurs : Row → List Row → ℕ
 occurs r [] = 0
 occurs r (s ∷ ss) = cond (equalRows r s) 1 0 + occurs r ss
 
--- ys is xs in another order
+-- ys is xs in some order
 pub data Permutation : List Row → List Row → Type 0 where
   unmoved : {xs : List Row} → Permutation xs xs
   prepended : {x : Row} {xs ys : List Row} → Permutation xs ys → Permutation (x ∷ xs) (x ∷ ys)

@@ -70,7 +70,7 @@ difference-pos v p q e h = omega arith
 
 module _ (a b r : List ℕ) (g : DifferenceWithBias a b r) where
   pub difference-up : 2 ^ 40 ≤ getD r 3 0 → valueOf (withoutBias r) + valueOf b ≡ valueOf a
-  difference-up h = up-same (getD r 0 0) (getD r 1 0) (getD r 2 0) (getD r 3 0) (valueOf a) (valueOf b) (2 ^ 40) h (g .same)
+  difference-up h = up-same (getD r 0 0) (getD r 1 0) (getD r 2 0) (getD r 3 0) (valueOf a) (valueOf b) (2 ^ 40) h (g .biased)
 
   pub difference-reduced : Reduced a → 2 ^ 40 ≤ getD r 3 0 → Reduced (withoutBias r)
   difference-reduced n h =
@@ -82,4 +82,4 @@ module _ (a b r : List ℕ) (g : DifferenceWithBias a b r) where
   pub difference-less : getD r 3 0 < 2 ^ 40 → valueOf a < valueOf b
   difference-less h =
       less-than-bias (getD r 0 0 + 2 ^ 40 * getD r 1 0 + 2 ^ 80 * getD r 2 0) (getD r 3 0) (valueOf a) (valueOf b) (2 ^ 40)
-      (three-lt (getD r 0 0) (getD r 1 0) (getD r 2 0) (g .limb0) (g .limb1) (g .limb2)) h (g .same)
+      (three-lt (getD r 0 0) (getD r 1 0) (getD r 2 0) (g .limb0) (g .limb1) (g .limb2)) h (g .biased)

@@ -32,7 +32,7 @@ bias = 2 ^ 120 * 2 ^ 40
 
 -- r is a - b with the bias, and 40 digits in each limb but the last
 pub record DifferenceWithBias (a b r : List ℕ) : Type 0 where
-  pub same : valueOf r + valueOf b ≡ valueOf a + bias
+  pub biased : valueOf r + valueOf b ≡ valueOf a + bias
   pub limb0 : getD r 0 0 < 2 ^ 40
   pub limb1 : getD r 1 0 < 2 ^ 40
   pub limb2 : getD r 2 0 < 2 ^ 40

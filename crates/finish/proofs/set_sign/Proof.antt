@@ -6,7 +6,7 @@ use Rattle.finish.proofs.set_sign.Statement.{statement}
 use Rattle.finish.proofs.set_sign.Tie as tie
 
 returns : tie.Need-returns
-returns c = or-shifted-r 1 63 (c .args .bits) (c .pre) ∙ add-comm (2 ^ 63) (c .args .bits)
+returns c = or-shifted-r 1 63 (c .args .unsigned) (c .pre) ∙ add-comm (2 ^ 63) (c .args .unsigned)
 
 pub set-sign-spec : {M : Type 1} → statement M
 set-sign-spec = tie.close (tie.spec returns)

@@ -13,7 +13,7 @@ returns c =
     let g = c .propagate .ensures in
     let q = s .pre .1 in
     record {
-      same =
+      biased =
           difference-same _ _ _ _ _ (getD a 0 0) (getD a 1 0) (getD a 2 0) (getD a 3 0) (getD b 0 0) (getD b 1 0) (getD b 2 0) (getD b 3 0) (2 ^ 40) (q .limb0) (q .limb1) (q .limb2) (q .limb3)
           (c .before .before .before .before .limb-difference .ensures) (c .before .before .before .limb-difference2 .ensures) (c .before .before .limb-difference3 .ensures) (c .before .limb-difference4 .ensures) (g .same);
       limb0 = g .limb0;

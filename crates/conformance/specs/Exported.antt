@@ -1,0 +1,30 @@
+-- What an exported finishing returns and writes out, as its callers learn it: 0 and the values of an accepted one, minus the number and zeros of a refused one.
+use mathlib.Core.Path.{_≡_}
+use lib.IntN.{ℤ, pos}
+use contract.Lifetimes.{Lfts}
+use borrow.Fn.Kinds.{Dens, endedOf, resT}
+use denote.Triple.Clauses.{AtExit}
+use denote.Ref.{now}
+use Rattle.finish.specs.declared.FinishedLine.{FinishedLine}
+use Rattle.finish.specs.Finish.{sumOutcome, figureOutcome, lineOutcome}
+use Rattle.exports.specs.Calls.{returnsZero, writes, doubleBits}
+use Rattle.exports.proofs.girth_sum.Reads as girthSumReads
+use Rattle.exports.proofs.girth_sum.Kinds as girthSumKinds
+use Rattle.exports.proofs.girth_figure.Reads as girthFigureReads
+use Rattle.exports.proofs.girth_figure.Kinds as girthFigureKinds
+use Rattle.exports.proofs.girth_line.Reads as girthLineReads
+use Rattle.exports.proofs.girth_line.Kinds as girthLineKinds
+
+-- a is the table, its group count and the section number, and after them what is written, which e has at the end
+pub record Exported : Type 1 where
+  pub of-girth-sum : (κs : Lfts 2) (a : Dens κs girthSumKinds.ps) (z : resT girthSumKinds.r κs .Denot) (e : AtExit (endedOf 2 girthSumKinds.ps girthSumKinds.r) κs) → girthSumReads.Learnt κs a z e
+      → let o = sumOutcome (now (a .0)) (a .1 .0) (a .1 .1 .0) in
+      (z ≡ returnsZero o) × (now (e .1 .1 .1 .0) ≡ writes 0 doubleBits o)
+  pub of-girth-figure : (κs : Lfts 2) (a : Dens κs girthFigureKinds.ps) (z : resT girthFigureKinds.r κs .Denot) (e : AtExit (endedOf 2 girthFigureKinds.ps girthFigureKinds.r) κs) → girthFigureReads.Learnt κs a z e
+      → let o = figureOutcome (now (a .0)) (a .1 .0) (a .1 .1 .0) in
+      (z ≡ returnsZero o) × (now (e .1 .1 .1 .0) ≡ writes (pos 0) (λ (f : ℤ). f) o)
+  pub of-girth-line : (κs : Lfts 4) (a : Dens κs girthLineKinds.ps) (z : resT girthLineKinds.r κs .Denot) (e : AtExit (endedOf 4 girthLineKinds.ps girthLineKinds.r) κs) → girthLineReads.Learnt κs a z e
+      → let o = lineOutcome (now (a .0)) (a .1 .0) (a .1 .1 .0) in
+      (z ≡ returnsZero o) × (now (e .1 .1 .1 .0) ≡ writes 0 (λ (l : FinishedLine). l .count) o)
+      × (now (e .1 .1 .1 .1 .0) ≡ writes 0 (λ (l : FinishedLine). doubleBits (l .sum)) o)
+      × (now (e .1 .1 .1 .1 .1 .0) ≡ writes (pos 0) (λ (l : FinishedLine). l .figure) o)
