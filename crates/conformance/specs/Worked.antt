@@ -26,6 +26,7 @@ pub data Worked : State → List Call → List Answer → State → Type 1 where
 abbrev pub CarriedOut : History → List Answer → State → Type 1
 CarriedOut h xs s = Worked (empty h) (h .calls) xs s
 
+-- demand 3 of calls by their contracts
 pub record WorkedIs : Type 1 where
   -- a call by its contract is a step of a list of calls
   pub called-is : (s : State) (c : Call) (x : Answer) (s′ : State) → Called s c x s′ → (answer s c ≡ x) × (step s c ≡ s′)
