@@ -3,6 +3,7 @@ use mathlib.Core.Path.{_≡_, sym, ap, _∙_}
 use Prim.Native.Nat.{ℕ}
 use mathlib.Core.List.{List}
 use native.Mathlib.Omega.{arith}
+use lib.ListN.{length}
 use Rattle.codec.proofs.Laws.{AreBytes}
 use Rattle.refusal.specs.Number.{numberOf}
 use Rattle.columns.specs.declared.Kind.the-variants.{Double}
@@ -27,7 +28,10 @@ module _ (d : tie.After-add) where
   bytes-here i = d .before .before .before .before .shared-slice-known .given i .fits
 
   outcome-here : addOutcome Double emptyTable 0 keys values tableBytes ≡ tableAnswer (d .add .result)
-  outcome-here = sym (d .add .ensures .0)
+  outcome-here =
+      -- asked on its own, so that a table of another length is refused by that number
+      let l : length (d .add .last .0) ≡ tableBytes = d .add .kept .0 in
+      sym (d .add .ensures .0)
 
 print-table-requires : tie.Need-print-table-requires
 print-table-requires c κs =
