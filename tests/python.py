@@ -22,6 +22,14 @@ def pack(rows):
     return struct.pack(f'<{len(rows)}I', *(k for k, _ in rows)), struct.pack(f'<{len(rows)}d', *(x for _, x in rows))
 
 
+def unpack(columns):
+    return list(zip(struct.unpack(f'<{columns.rows}I', columns.keys), struct.unpack(f'<{columns.rows}d', columns.values)))
+
+
+def trailer(n, k, v):
+    return struct.pack('<III', n, k, v) + b'LAST'
+
+
 def table_of(rows, groups=64):
     table = bytearray(64 * groups)
     return table, girths.add(table, 0, *pack(rows))
@@ -87,6 +95,69 @@ def test_samples():
         assert girths.report(memoryview(bytearray(data))).decode() == expected, path
 
 
+def made(rows):
+    """The file that tools/mkpatch makes of rows as text."""
+    text = ''.join(f'{key} {x!r}\n' for key, x in rows)
+    return subprocess.run([sys.executable, ROOT / 'tools' / 'mkpatch'], input=text.encode(), capture_output=True, check=True).stdout
+
+
+def test_rewritten_samples():
+    """Every sample that the reader accepts keeps its rows and its report, and is written as tools/mkpatch writes its rows."""
+    files = {}
+    for path in sorted((ROOT / 'samples').glob('*.patch')):
+        data = path.read_bytes()
+        try:
+            columns = girths.read(data)
+        except girths.Refused:
+            continue
+        n, file = columns.rows, girths.write(columns.keys, columns.values)
+        again = girths.read(file)
+        assert again == columns and girths.write(again.keys, again.values) == file, path
+        assert girths.report(file) == girths.report(data), path
+        rows = unpack(columns)
+        if path.stem != 'refused-10-infinite':  # mkpatch takes no infinite length
+            assert made(rows) == file, path
+        without_notes = len(data) == 12 * n + 16 and data.endswith(trailer(n, 12 * n + 16, 8 * n + 16))
+        assert (file == data) == without_notes, path
+        files[path.stem] = data, file
+    changed = {name for name, (data, file) in files.items() if file != data}
+    assert {'notes-and-values-first', 'recut'} <= changed and len(files) - len(changed) >= 10
+    assert files['notes-and-values-first'][1] == files['rewritten'][0]
+
+
+def test_write():
+    keys, values = map(bytearray, pack([(1, 1.0), (2, -0.0), (1, 5e-324)]))
+    before = bytes(keys), bytes(values)
+    file = girths.write(keys, values)
+    assert type(file) is bytes and file == before[0] + before[1] + trailer(3, 52, 40)
+    refused(9, girths.write, keys, memoryview(values)[:16])
+    assert (keys, values) == before
+    assert girths.write(b'', b'') == trailer(0, 16, 16)
+    odd = struct.pack('<3Q', 0x7FF0000000000000, 0xFFF8000000000001, 0x7FF0000000000001)
+    assert girths.write(before[0], odd) == before[0] + odd + trailer(3, 52, 40)
+    r = random.Random(2)
+    many = r.randbytes(4 * 5462), r.randbytes(8 * 5462)
+    columns = girths.read(girths.write(many[0][:4 * 5460], many[1][:8 * 5460]))
+    assert columns == (5460, many[0][:4 * 5460], many[1][:8 * 5460])
+    refused(17, girths.write, many[0][:4 * 5461], many[1][:8 * 5461])
+    refused(17, girths.write, *many)
+    refused(9, girths.write, many[0], many[1][:8 * 5460])
+    refused(9, girths.write, many[0][:4 * 5460], many[1])
+    refused(9, girths.write, bytes(5), bytes(8))
+    refused(9, girths.write, bytes(4), bytes(9))
+
+
+def test_output_of_write():
+    """Outputs of any length, which the call of the module makes itself."""
+    keys, values = pack([(1, 1.0), (2, -0.0)])
+    file = girths.write(keys, values)
+    for room, answer in (0, -16), (39, -16), (40, 40), (41, 40), (70000, 40):
+        out = bytearray(b'\xa5' * room)
+        lent = girths._Lent('', keys), girths._Lent('', values), girths._Lent('', out, writable=True)
+        assert girths._library().girth_write(*lent[0].words, *lent[1].words, *lent[2].words) == answer
+        assert out == (file + b'\xa5' * (room - 40) if answer > 0 else b'\xa5' * room)
+
+
 def test_refusals():
     one = struct.pack('<d', 1.0)
     key = struct.pack('<I', 1)
@@ -114,7 +185,7 @@ def test_refusals():
 def test_same_words_in_rust():
     text = (ROOT / 'bindings' / 'rust' / 'src' / 'lib.rs').read_text()
     words = re.findall(r'^    "(.*)",$', text[text.index('const GROUNDS'):text.index('];', text.index('const GROUNDS'))], re.M)
-    assert words[:15] == [girths.GROUNDS[n] for n in range(1, 16)]
+    assert len(words) == 17 and girths.GROUNDS == {n: words[n - 1] for n in range(1, 18) if n != 16}
 
 
 def test_any_order():
@@ -136,6 +207,9 @@ def test_checks_of_arguments():
     raises(TypeError, girths.read, None)
     raises(TypeError, girths.read, memoryview(bytes(32))[::2])
     raises(TypeError, girths.read, memoryview(bytes(32)).cast('I'))
+    raises(TypeError, girths.write, 'text', b'')
+    raises(TypeError, girths.write, b'', None)
+    raises(TypeError, girths.write, memoryview(bytes(4)).cast('I'), bytes(8))
     raises(TypeError, girths.add, bytes(64), 0, b'', b'')
     raises(TypeError, girths.add, t, 0, b'', b'', bytes(128))
     raises(TypeError, girths.add, t, 0.0, b'', b'')

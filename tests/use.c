@@ -1,10 +1,79 @@
-/* A C program over the exported calls: the report of a file by way of girth_report, and again from read, add and line. */
+/* A C program over the exported calls: the report of a file by way of girth_report, and again from read, add and line; then the file written
+ * from its two columns, and what girth_write refuses. */
 #include "girths.h"
 #include <inttypes.h>
 #include <stdio.h>
 #include <string.h>
+#include <sys/mman.h>
 
-static uint8_t file[65537], table[4096], work[4096], text[4096];
+enum { MOST = 5460, LONGEST = 12 * MOST + 16 };
+
+static uint8_t file[LONGEST + 1], table[4096], work[4096], text[4096];
+static uint8_t columns[8 * (MOST + 1)], out[LONGEST + 99];
+
+/* A call of girth_write on an output of which every byte is 0xA5. */
+static int64_t write_file(const uint8_t *keys, size_t keys_len, const uint8_t *values, size_t values_len, size_t room) {
+    memset(out, 0xA5, sizeof out);
+    return girth_write(keys, keys_len, values, values_len, out, room);
+}
+
+static int untouched_from(size_t at) {
+    for (; at < sizeof out; at++) {
+        if (out[at] != 0xA5) return 0;
+    }
+    return 1;
+}
+
+/* 9, then 17, then 16, each also where those after it hold too. */
+static int refuses(void) {
+    static const struct { size_t keys, values, room; int64_t answer; } calls[] = {
+        {8, 8, sizeof out, -9}, {7, 8, sizeof out, -9}, {4, 9, 27, -9}, {4 * (MOST + 1), 8 * MOST, sizeof out, -9}, {4 * MOST, 8 * (MOST + 1), 0, -9},
+        {4 * (MOST + 1), 8 * (MOST + 1), sizeof out, -17}, {4 * (MOST + 1), 8 * (MOST + 1), LONGEST, -17}, {4 * (MOST + 1), 8 * (MOST + 1), 0, -17},
+        {4 * MOST, 8 * MOST, LONGEST - 1, -16}, {4, 8, 27, -16}, {0, 0, 15, -16}, {0, 0, 0, -16},
+    };
+    for (size_t i = 0; i < sizeof calls / sizeof *calls; i++) {
+        if (write_file(columns, calls[i].keys, columns, calls[i].values, calls[i].room) != calls[i].answer || !untouched_from(0)) return 0;
+    }
+    return 1;
+}
+
+/* Columns of 2^32 + 1 rows, which a row count of 32 bits would take for one row. Nobody reads them, so they need no memory. */
+static int refuses_wide(void) {
+    size_t rows = ((size_t)1 << 32) + 1;
+    void *both = mmap(NULL, 8 * rows, PROT_READ, MAP_PRIVATE | MAP_ANONYMOUS | MAP_NORESERVE, -1, 0);
+    if (both == MAP_FAILED) {
+        fprintf(stderr, "use.c: there is no address space for 2^32 rows, which were not tried\n");
+        return 1;
+    }
+    return write_file(both, 4 * rows, both, 8 * rows, sizeof out) == -17 && untouched_from(0) &&
+           write_file(both, 4 * rows, both, 8, sizeof out) == -9 && untouched_from(0) &&
+           write_file(both, 4, both, 8 * rows, sizeof out) == -9 && untouched_from(0);
+}
+
+/* In an output of this room: the file of these columns, its bytes one by one, and what a reader finds in it. */
+static int writes(const uint8_t *keys, const uint8_t *values, uint32_t rows, size_t room) {
+    size_t length = 12 * (size_t)rows + 16;
+    if (write_file(keys, 4 * (size_t)rows, values, 8 * (size_t)rows, room) != (int64_t)length || !untouched_from(length)) return 0;
+    const uint8_t *trailer = out + 12 * (size_t)rows;
+    const uint32_t fields[] = {rows, 12 * rows + 16, 8 * rows + 16, 0x5453414C};
+    for (int i = 0; i < 16; i++) {
+        if (trailer[i] != (uint8_t)(fields[i / 4] >> 8 * (i % 4))) return 0;
+    }
+    uint64_t keys_at, values_at;
+    return memcmp(out, keys, 4 * (size_t)rows) == 0 && memcmp(out + 4 * (size_t)rows, values, 8 * (size_t)rows) == 0 &&
+           girth_read(out, length, &keys_at, &values_at) == rows && keys_at == 0 && values_at == 4 * (uint64_t)rows;
+}
+
+/* The file of these columns in outputs of several lengths, with the report of the file that they were read from. */
+static int rewrites(const uint8_t *keys, const uint8_t *values, uint32_t rows, int64_t report) {
+    static uint8_t once[LONGEST], same[sizeof text];
+    size_t length = 12 * (size_t)rows + 16;
+    if (write_file(keys, 4 * (size_t)rows, values, 8 * (size_t)rows, length - 1) != -16 || !untouched_from(0)) return 0;
+    if (!writes(keys, values, rows, length) || !writes(keys, values, rows, length + 1) || !writes(keys, values, rows, sizeof out)) return 0;
+    memcpy(once, out, length);
+    return girth_report(once, length, same, sizeof same) == report && memcmp(same, text, (size_t)report) == 0 &&
+           writes(once, once + 4 * (size_t)rows, rows, sizeof out) && memcmp(once, out, length) == 0;
+}
 
 int main(int argc, char **argv) {
     FILE *in = argc == 2 ? fopen(argv[1], "rb") : NULL;
@@ -34,6 +103,13 @@ int main(int argc, char **argv) {
         at += sprintf(again + at, "%" PRIu32 " %" PRIu64 " %016" PRIX64 " %" PRId64 "\n", key, count, bits, figure);
     }
     if (at != n || memcmp(again, text, (size_t)n) != 0) return 9;
+
+    for (size_t i = 0; i < sizeof columns; i++) columns[i] = (uint8_t)(37 * i + 11);
+    memset(columns, 0xFF, 8); /* as a value it is not a number */
+    if (!refuses()) return 10;
+    if (!refuses_wide()) return 11;
+    if (!writes(columns, columns, MOST, LONGEST) || !writes(columns, columns, 0, sizeof out)) return 12;
+    if (!rewrites(file + keys, file + values, (uint32_t)rows, n)) return 13;
     fwrite(text, 1, (size_t)n, stdout);
     return 0;
 }

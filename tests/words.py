@@ -27,11 +27,13 @@ ONE = {
     "FigureAnswer": "a mill figure's answer: the enum, and what it says as an outcome",
     "LineAnswer": "a finished line's answer: the enum, and what it says as an outcome",
     "TableAnswer": "an add's or a merge's answer: the enum, and what it says as an outcome",
+    "OutputAnswer": "the answer of a call that is lent a buffer for its output: the enum, and what it says as an outcome",
     "add": "the call that adds two columns, and its entry in a list of calls",
     "merge": "the call that merges two tables, and its entry in a list of calls",
     "sum": "a section's sum: the call, its question, its field in a line, its entry in the bench book, a double or the answer that has it",
     "figure": "a section's mill figure: the call, its question, its field in a line, the case that carries it",
     "line": "a section's finished line: the call, its question, the case that carries it",
+    "write": "puts bytes into a lent buffer: a number's, or a patch file",
     "look_up": "the record of a section: the function, and the enum of what it finds",
     "address": "where a returned part stands",
     "content": "the bytes that the caller has afterwards, of a part returned or of a buffer lent",
@@ -39,7 +41,6 @@ ONE = {
     "Absent": "a section without a row: the sum's case, and the claim about it",
     "TooLarge": "refusal 14's condition, and the sum's case",
     "NotSound": "refusal 7's condition: the sum's case, and the example of it",
-    "TooShort": "refusal 16's condition, and the case of the answer",
     "TooManyKeys": "refusal 12 and its condition",
     "TooManyRows": "refusal 11 and its condition",
     "NoRoom": "refusal 12's condition, while rows are placed and in an example",
@@ -98,7 +99,7 @@ ONE = {
 # parameters of two types
 TWO_TYPES = {"sum"}
 ONE |= {f"limb{i}": "the bound of a limb" for i in range(4)}
-ONE |= {f"of-{call}": "what is said of this call's contract" for call in ("keys", "values", "read", "key-start", "value-start", "report", "girth-read", "girth-report", "girth-sum", "girth-figure", "girth-line")}
+ONE |= {f"of-{call}": "what is said of this call's contract" for call in ("keys", "values", "read", "key-start", "value-start", "write", "report", "girth-read", "girth-write", "girth-report", "girth-sum", "girth-figure", "girth-line")}
 
 NAME = r"[^\s:(){}.,;]+"
 

@@ -2,8 +2,8 @@
  * beside this file has the command. docs/FORMATS.md has the patch file, the table and the report byte by byte, docs/RULES.md the refusals.
  *
  * A slice is a pointer and a length in bytes. The pointer is not null, even for length 0, and no lent buffer overlaps another that is
- * lent for writing. A call returns a number of at least 0, or minus the refusal's number; what it writes out is 0 when it is refused.
- * A refused call changes no byte of a table. */
+ * lent for writing. A call returns a number of at least 0, or minus the refusal's number; a number that it gives by a pointer is 0 when it
+ * is refused. A refused call changes no byte of a table, nor of out. */
 #ifndef GIRTHS_H
 #define GIRTHS_H
 
@@ -16,6 +16,11 @@ extern "C" {
 
 /* The row count of a patch file, or -1 to -6. The columns start so many bytes after the front: 4n bytes of keys, 8n of values. */
 int64_t girth_read(const uint8_t *file, size_t file_len, uint64_t *keys_at, uint64_t *values_at);
+
+/* Writes a patch file of two columns, 4n bytes of keys and 8n of values, at the front of out: the file's length, 12n + 16. Refused, in this
+ * order: -9 where no n fits both columns, -17 where n is more than 5,460, -16 where out is shorter than the file. The file has no notes, its
+ * keys stand before its values, and every value is written as it stands, infinite ones too. The bytes of out after the file are untouched. */
+int64_t girth_write(const uint8_t *keys, size_t keys_len, const uint8_t *values, size_t values_len, uint8_t *out, size_t out_len);
 
 /* Adds the rows of two columns to a table of g records: the new group count, or -7 to -12. A table has 64 bytes a group, 1,024 groups at
  * most. The work buffer is at least as long as the table, and holds only zeros afterwards. */
@@ -34,8 +39,7 @@ int64_t girth_figure(const uint8_t *table, size_t table_len, uint64_t g, uint32_
 /* The finished line of a section: 0, or -7, -13, -14 or -15. */
 int64_t girth_line(const uint8_t *table, size_t table_len, uint64_t g, uint32_t key, uint64_t *count, uint64_t *bits, int64_t *figure);
 
-/* The report of a patch file, at the front of out: the length of its text, at most 4,096 bytes, or -16 where out is shorter than the text and
- * untouched. */
+/* The report of a patch file, at the front of out: the length of its text, at most 4,096 bytes, or -16 where out is shorter than the text. */
 int64_t girth_report(const uint8_t *file, size_t file_len, uint8_t *out, size_t out_len);
 
 #ifdef __cplusplus

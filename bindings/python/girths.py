@@ -1,7 +1,8 @@
 """The calls of the proved library for reproducible grouped summation, on bytes.
 
     >>> import girths, pathlib
-    >>> columns = girths.read(pathlib.Path('samples/two-sections.patch').read_bytes())
+    >>> file = pathlib.Path('samples/two-sections.patch').read_bytes()
+    >>> columns = girths.read(file)
     >>> table = bytearray(64 * 64)
     >>> g = girths.add(table, 0, columns.keys, columns.values)
     >>> girths.sum(table, g, 1), girths.figure(table, g, 1)
@@ -11,6 +12,8 @@
     >>> girths.sum(table, g, 5)
     Traceback (most recent call last):
     girths.Refused: refused 13: the section has no row
+    >>> girths.write(columns.keys, columns.values) == file
+    True
 
 A table is a writable buffer, 64 bytes a section, with a group count g that the caller holds; it starts at 0. What a table holds depends on the
 multiset of its rows alone. A call that is refused raises Refused and changes no byte of a table. docs/FORMATS.md has the bytes, docs/RULES.md
@@ -28,11 +31,13 @@ import subprocess
 import tempfile
 from typing import NamedTuple
 
-__all__ = ['Columns', 'Line', 'NotBuilt', 'Refused', 'add', 'bits', 'figure', 'line', 'merge', 'read', 'report', 'sum']
+__all__ = ['Columns', 'Line', 'NotBuilt', 'Refused', 'add', 'bits', 'figure', 'line', 'merge', 'read', 'report', 'sum', 'write']
 
 ROOT = pathlib.Path(__file__).resolve().parents[2]
+LONGEST_FILE = 65536
 LONGEST_REPORT = 4096
 
+# 16, an output that is too short, is not among them: this module lends outputs itself, and they are long enough
 GROUNDS = {
     1: 'the file is longer than 65,536 bytes',
     2: 'the file is shorter than 16 bytes',
@@ -49,11 +54,12 @@ GROUNDS = {
     13: 'the section has no row',
     14: 'the sum is too large for a double',
     15: 'the mill figure does not fit',
+    17: 'a patch file would have more than 5,460 rows',
 }
 
 
 class Refused(Exception):
-    """A refused call; number is 1 to 15, as docs/RULES.md lists it."""
+    """A refused call; number is 1 to 15 or 17, as docs/RULES.md lists it."""
 
     def __init__(self, number):
         super().__init__(f'refused {number}: {GROUNDS[number]}')
@@ -116,6 +122,7 @@ _OUT, _SIGNED_OUT = ctypes.POINTER(ctypes.c_uint64), ctypes.POINTER(ctypes.c_int
 _TABLE = [_BYTES, _LENGTH, _NUMBER]
 _TYPES = {
     'girth_read': [_BYTES, _LENGTH, _OUT, _OUT],
+    'girth_write': 3 * [_BYTES, _LENGTH],
     'girth_add': _TABLE + 3 * [_BYTES, _LENGTH],
     'girth_merge': _TABLE + _TABLE,
     'girth_sum': _TABLE + [ctypes.c_uint32, _OUT],
@@ -202,6 +209,13 @@ def _groups(n, table):
     return n
 
 
+def _front(n, out):
+    """The first n bytes of an output."""
+    if not 0 <= n <= out.length:
+        raise RuntimeError(f'the library gave a length of {n} bytes, and the output has {out.length}')
+    return bytes(out.held[:n])
+
+
 def _double(n):
     return struct.unpack('<d', struct.pack('<Q', n))[0]
 
@@ -223,6 +237,18 @@ def read(file):
         raise RuntimeError('the library gave a column that does not lie within the file')
     view = memoryview(file).cast('B')
     return Columns(n, view[keys:keys + 4 * n], view[values:values + 8 * n])
+
+
+def write(keys, values):
+    """A patch file of two columns, as bytes: keys, values and trailer, without notes. Or refusals 9 and 17.
+
+    Values are not looked at: infinite ones are written as they stand."""
+    columns = _Lent('a key column', keys), _Lent('a value column', values)
+    out = _Lent('a file', bytearray(LONGEST_FILE), writable=True)
+    file = _front(_answer(_library().girth_write(*columns[0].words, *columns[1].words, *out.words)), out)
+    if len(file) != columns[0].length + columns[1].length + 16:
+        raise RuntimeError('the library gave a file that is not its columns and a trailer')
+    return file
 
 
 def add(table, g, keys, values, work=None):
@@ -273,7 +299,4 @@ def line(table, g, key):
 def report(file):
     """The report of a patch file, as bytes. A refused file has a report too: `refused` and the number."""
     lent, out = _Lent('a file', file), _Lent('a text', bytearray(LONGEST_REPORT), writable=True)
-    n = _library().girth_report(*lent.words, *out.words)
-    if not 0 <= n <= out.length:
-        raise RuntimeError(f'the library gave a text of {n} bytes')
-    return bytes(out.held[:n])
+    return _front(_library().girth_report(*lent.words, *out.words), out)

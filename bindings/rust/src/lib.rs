@@ -4,24 +4,17 @@
 //! alone, whatever their order, their splits and their merges. docs/FORMATS.md has the bytes, docs/RULES.md the rules and the refusals.
 //!
 //! The caller holds a table as a buffer and its group count `g`, which starts at 0. Each call is total: it refuses what is wrong with a
-//! [`Refusal`], and a refused call changes no byte of a table.
+//! [`Refusal`], and a refused call changes no byte of a table, nor of an output.
 //!
 //! ```
-//! // keys 1, 2, 1 and values 1, 0.125, 0.5, then the trailer: 3 rows, distances 52 and 40, the mark
-//! let mut file = Vec::new();
-//! for key in [1u32, 2, 1] {
-//!     file.extend(key.to_le_bytes());
-//! }
-//! for value in [1f64, 0.125, 0.5] {
-//!     file.extend(value.to_le_bytes());
-//! }
-//! for field in [3u32, 52, 40] {
-//!     file.extend(field.to_le_bytes());
-//! }
-//! file.extend(b"LAST");
+//! // a patch file of 3 rows: 12 bytes a row, and a trailer of 16
+//! let keys = [1u32, 2, 1].map(u32::to_le_bytes).concat();
+//! let values = [1f64, 0.125, 0.5].map(f64::to_le_bytes).concat();
+//! let mut file = [0u8; 52];
+//! assert_eq!(girths::write(&keys, &values, &mut file)?, 52);
 //!
 //! let columns = girths::read(&file)?;
-//! assert_eq!(columns.rows, 3);
+//! assert_eq!((columns.rows, columns.keys, columns.values), (3, &keys[..], &values[..]));
 //!
 //! let mut table = [0u8; 64 * 64];
 //! let mut work = [0u8; 64 * 64];
@@ -48,6 +41,9 @@ use std::fmt;
 // written to is borrowed alone, so that it overlaps no other; the library is proved to stay within the lengths.
 extern "C" {
     fn girth_read(file: *const u8, file_len: usize, keys_at: *mut u64, values_at: *mut u64) -> i64;
+    fn girth_write(
+        keys: *const u8, keys_len: usize, values: *const u8, values_len: usize, out: *mut u8, out_len: usize,
+    ) -> i64;
     fn girth_add(
         table: *mut u8, table_len: usize, g: u64, keys: *const u8, keys_len: usize, values: *const u8, values_len: usize,
         work: *mut u8, work_len: usize,
@@ -61,11 +57,11 @@ extern "C" {
     fn girth_report(file: *const u8, file_len: usize, out: *mut u8, out_len: usize) -> i64;
 }
 
-/// Why a call was refused, by its number of 1 to 15; 16 where a lent buffer is too short for a report.
+/// Why a call was refused, by its number of 1 to 17.
 #[derive(Debug, PartialEq, Eq, Clone, Copy, Hash)]
 pub struct Refusal(u32);
 
-const GROUNDS: [&str; 16] = [
+const GROUNDS: [&str; 17] = [
     "the file is longer than 65,536 bytes",
     "the file is shorter than 16 bytes",
     "the last four bytes are not the mark",
@@ -81,11 +77,12 @@ const GROUNDS: [&str; 16] = [
     "the section has no row",
     "the sum is too large for a double",
     "the mill figure does not fit",
-    "the buffer is too short for the report",
+    "the output is too short",
+    "a patch file would have more than 5,460 rows",
 ];
 
 impl Refusal {
-    /// The number, as docs/RULES.md lists it; 16 is a buffer that is too short for a report.
+    /// The number, as docs/RULES.md lists it.
     pub fn number(self) -> u32 {
         self.0
     }
@@ -140,6 +137,13 @@ fn groups(r: i64, room: usize) -> Result<u64, Refusal> {
     Ok(g)
 }
 
+/// The length of what was written to the front of an output, which has room for it.
+fn length(r: i64, room: usize) -> Result<usize, Refusal> {
+    let n = answer(r)?;
+    assert!(n <= room as u64, "the library gave a greater length than the output has");
+    Ok(n as usize)
+}
+
 /// Reads a patch file: its columns, or refusals 1 to 6.
 pub fn read(file: &[u8]) -> Result<Columns<'_>, Refusal> {
     let (mut k, mut v) = (u64::MAX, u64::MAX);
@@ -150,6 +154,16 @@ pub fn read(file: &[u8]) -> Result<Columns<'_>, Refusal> {
     let n = n? as usize;
     assert!(n <= file.len() / 12, "the library gave more rows than the file has");
     Ok(Columns { rows: n, keys: column(file, k, 4 * n), values: column(file, v, 8 * n) })
+}
+
+/// Writes a patch file of two columns, without notes, to the front of an output, and gives its length: the two columns and a trailer of 16 bytes.
+/// Refused, in this order: 9 where the lengths of the columns fit no row count, 17 where there are more than 5,460 rows, 16 where the output is
+/// shorter than the file. Values are not looked at. Bytes after the file are untouched, and so is the whole output when the call is refused.
+pub fn write(keys: &[u8], values: &[u8], out: &mut [u8]) -> Result<usize, Refusal> {
+    let r = unsafe { girth_write(keys.as_ptr(), keys.len(), values.as_ptr(), values.len(), out.as_mut_ptr(), out.len()) };
+    let n = length(r, out.len())?;
+    assert_eq!(n, keys.len() + values.len() + 16, "a file is its columns and a trailer");
+    Ok(n)
 }
 
 /// Adds rows to a table of g records, and gives its new group count, or refusals 7 to 12. The work buffer is at least as long as the table, and
@@ -192,11 +206,9 @@ pub fn line(table: &[u8], g: u64, key: u32) -> Result<Line, Refusal> {
     settled(r, l, l == Line { count: 0, bits: 0, figure: 0 })
 }
 
-/// Writes the report of a patch file to the front of a buffer, and gives its length, 4,096 bytes at most. Refusal 16 leaves the buffer untouched.
+/// Writes the report of a patch file to the front of an output, and gives its length, 4,096 bytes at most. Refusal 16 leaves the output untouched.
 pub fn report(file: &[u8], out: &mut [u8]) -> Result<usize, Refusal> {
-    let n = answer(unsafe { girth_report(file.as_ptr(), file.len(), out.as_mut_ptr(), out.len()) })?;
-    assert!(n <= out.len() as u64, "the library gave a longer text than the buffer holds");
-    Ok(n as usize)
+    length(unsafe { girth_report(file.as_ptr(), file.len(), out.as_mut_ptr(), out.len()) }, out.len())
 }
 
 /// The value written out, after a look that a refused call wrote zeros.
@@ -220,7 +232,9 @@ mod tests {
         let e = super::read(&[]).unwrap_err();
         assert_eq!(e.number(), 2);
         assert_eq!(e.to_string(), "refused 2: the file is shorter than 16 bytes");
-        assert_eq!(super::report(&[], &mut [0; 3]).unwrap_err().to_string(), "refused 16: the buffer is too short for the report");
+        assert_eq!(super::report(&[], &mut [0; 3]).unwrap_err().to_string(), "refused 16: the output is too short");
+        let e = super::write(&[0; 4 * 5461], &[0; 8 * 5461], &mut []).unwrap_err();
+        assert_eq!(e.to_string(), "refused 17: a patch file would have more than 5,460 rows");
     }
 
     #[test]
@@ -239,5 +253,11 @@ mod tests {
     #[should_panic(expected = "more groups than the table has room for")]
     fn a_group_count_beyond_the_buffer_is_never_given() {
         let _ = super::groups(2, 127);
+    }
+
+    #[test]
+    #[should_panic(expected = "a greater length than the output has")]
+    fn a_length_beyond_the_output_is_never_given() {
+        let _ = super::length(17, 16);
     }
 }

@@ -5,7 +5,9 @@ use Rattle.codec.specs.Bytes.{number, bytes, numberAt}
 use Rattle.refusal.specs.Outcome.{accepted, refused}
 use Rattle.columns.specs.declared.Kind.the-variants.{Double}
 use Rattle.patch.specs.File.{marked, outside, overlap, readGrounds, readOutcome}
-use Rattle.patch.specs.Cases.{zeros, file, Example, _gives_}
+use Rattle.columns.specs.Columns.{columnsFit}
+use Rattle.patch.specs.Serializer.{trailerOf, writeGrounds, writeOutcome}
+use Rattle.patch.specs.Cases.{zeros, file, Example, _gives_, WriteExample, writeCase, writeSays}
 
 -- full of rows, with a row more, with a byte more, and a byte too long without a mark
 longest : List Example
@@ -17,5 +19,19 @@ longest =
     ∷ []
 
 computed : map (λ (e : Example). readOutcome Double (e .input)) longest ≡ map (λ (e : Example). e .expected) longest
-unfolding longest number bytes numberAt marked outside overlap readGrounds readOutcome
+unfolding longest trailerOf number bytes numberAt marked outside overlap readGrounds readOutcome
 computed = refl
+
+-- the most rows, in an output with room and in one a byte too short; a row more, where 17 goes before 16, and 9 before both
+longestWrites : List WriteExample
+longestWrites =
+    writeCase 21840 43680 65536 (accepted 65536)
+    ∷ writeCase 21840 43680 65535 (refused 16)
+    ∷ writeCase 21844 43688 65548 (refused 17)
+    ∷ writeCase 21844 43688 0 (refused 17)
+    ∷ writeCase 21844 43680 0 (refused 9)
+    ∷ []
+
+longest-writes-computed : map writeSays longestWrites ≡ map (λ (w : WriteExample). w .expected) longestWrites
+unfolding longestWrites columnsFit writeGrounds writeOutcome
+longest-writes-computed = refl

@@ -1,14 +1,18 @@
--- The calls on a file say what their contracts say, and the parts that the reader hands back stand where their columns start.
+-- The calls on a file say what their contracts say, the parts that the reader hands back stand where their columns start, and a file that is written is read with the same columns.
 use Prim.Native.Nat.{ℕ, _+_, _-_, _*_, _<_}
-use mathlib.Core.Path.{_≡_, sym, ap, _∙_}
+use mathlib.Core.Path.{_≡_, refl, sym, ap, _∙_}
 use mathlib.Core.List.{List}
 use native.Mathlib.Omega.{arith}
 use lib.IntN.{ℤ}
 use lib.ListN.{length, take, drop}
 use denote.Ref.{now}
 use Rattle.refusal.specs.Outcome.{Outcome, accepted}
+use Rattle.refusal.proofs.Outcomes.{not-given}
 use Rattle.columns.specs.declared.Kind.the-variants.{Double}
+use Rattle.columns.specs.Columns.{columnRowCount}
 use Rattle.patch.specs.File.{readOutcome, keyColumn, valueColumn, column, columnStart, keyDistance, valueDistance, addressAfter}
+use Rattle.patch.specs.Serializer.{fileLength, writeGrounds, writeOutcome}
+use Rattle.patch.proofs.WriteOutcome.{write-then-read, write-then-keys, write-then-values, bytes-after}
 use Rattle.exports.specs.Calls.{returnsCount}
 use Rattle.conformance.specs.Called.{countSaid}
 use Rattle.conformance.specs.Exported.{Exported}
@@ -41,6 +45,11 @@ column-there : (cell n d : ℕ) (f : List ℕ) → readOutcome Double f ≡ acce
 unfolding column columnStart
 column-there cell n d f e = rw e
 
+-- and the number that the writer returns
+write-said : (ks vs : List ℕ) (outLen : ℕ) {z : ℤ} → z ≡ returnsCount (writeOutcome ks vs outLen) → countSaid z ≡ writeOutcome ks vs outLen
+unfolding writeOutcome writeGrounds
+write-said ks vs outLen q = counted (writeOutcome ks vs outLen) (not-given 0 (writeGrounds ks vs outLen) (fileLength Double (columnRowCount ks)) refl) q
+
 pub files : Files
 unfolding keyColumn valueColumn
 files = record {
@@ -54,6 +63,14 @@ files = record {
         ap (λ (i : ℕ). take (4 * n) (drop i f)) (l .1 .0) ∙ column-there 4 n (keyDistance f) f o,
         ap (λ (i : ℕ). take (8 * n) (drop i f)) (l .1 .1) ∙ column-there 8 n (valueDistance f) f o,
       );
+  of-write = λ κs a z e l. l;
+  of-girth-write = λ κs a z e l. l;
+  columns-back = λ κs a z e c l q.
+      let ks = now (a .0) in
+      let vs = now (a .1 .0) in
+      let out = now (a .1 .1 .0) in
+      let o = sym (write-said ks vs (length out) (c .0)) ∙ q in
+      rw (c .1) (write-then-read ks vs out o, write-then-keys ks vs out o, write-then-values ks vs out o, bytes-after ks vs out o);
   of-report = λ κs a z e l. l;
   of-girth-report = λ κs a z e l. l;
 }

@@ -8,6 +8,7 @@ asks-nothing = record {
   of-values = λ κs a. tt;
   of-key-start = λ κs a. tt;
   of-value-start = λ κs a. tt;
+  of-write = λ κs a. tt;
   of-add = λ κs a. tt;
   of-merge = λ κs a. tt;
   of-sum = λ κs a. tt;
@@ -20,5 +21,6 @@ asks-nothing = record {
   of-girth-sum = λ κs a. tt;
   of-girth-figure = λ κs a. tt;
   of-girth-line = λ κs a. tt;
+  of-girth-write = λ κs a. tt;
   of-girth-report = λ κs a. tt;
 }

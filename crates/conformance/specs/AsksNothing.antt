@@ -11,6 +11,8 @@ use Rattle.patch.proofs.key_start.Reads as keyStartReads
 use Rattle.patch.proofs.key_start.Kinds as keyStartKinds
 use Rattle.patch.proofs.value_start.Reads as valueStartReads
 use Rattle.patch.proofs.value_start.Kinds as valueStartKinds
+use Rattle.patch.proofs.write.Reads as writeReads
+use Rattle.patch.proofs.write.Kinds as writeKinds
 use Rattle.add.proofs.add.Reads as addReads
 use Rattle.add.proofs.add.Kinds as addKinds
 use Rattle.merge.proofs.merge.Reads as mergeReads
@@ -35,6 +37,8 @@ use Rattle.exports.proofs.girth_figure.Reads as girthFigureReads
 use Rattle.exports.proofs.girth_figure.Kinds as girthFigureKinds
 use Rattle.exports.proofs.girth_line.Reads as girthLineReads
 use Rattle.exports.proofs.girth_line.Kinds as girthLineKinds
+use Rattle.exports.proofs.girth_write.Reads as girthWriteReads
+use Rattle.exports.proofs.girth_write.Kinds as girthWriteKinds
 use Rattle.exports.proofs.girth_report.Reads as girthReportReads
 use Rattle.exports.proofs.girth_report.Kinds as girthReportKinds
 
@@ -45,6 +49,7 @@ pub record AsksNothing : Type 1 where
   pub of-values : (κs : Lfts 1) (a : Dens κs valuesKinds.ps) → valuesReads.Asked κs a
   pub of-key-start : (κs : Lfts 1) (a : Dens κs keyStartKinds.ps) → keyStartReads.Asked κs a
   pub of-value-start : (κs : Lfts 1) (a : Dens κs valueStartKinds.ps) → valueStartReads.Asked κs a
+  pub of-write : (κs : Lfts 3) (a : Dens κs writeKinds.ps) → writeReads.Asked κs a
   pub of-add : (κs : Lfts 4) (a : Dens κs addKinds.ps) → addReads.Asked κs a
   pub of-merge : (κs : Lfts 2) (a : Dens κs mergeKinds.ps) → mergeReads.Asked κs a
   pub of-sum : (κs : Lfts 1) (a : Dens κs sumKinds.ps) → sumReads.Asked κs a
@@ -57,4 +62,5 @@ pub record AsksNothing : Type 1 where
   pub of-girth-sum : (κs : Lfts 2) (a : Dens κs girthSumKinds.ps) → girthSumReads.Asked κs a
   pub of-girth-figure : (κs : Lfts 2) (a : Dens κs girthFigureKinds.ps) → girthFigureReads.Asked κs a
   pub of-girth-line : (κs : Lfts 4) (a : Dens κs girthLineKinds.ps) → girthLineReads.Asked κs a
+  pub of-girth-write : (κs : Lfts 3) (a : Dens κs girthWriteKinds.ps) → girthWriteReads.Asked κs a
   pub of-girth-report : (κs : Lfts 2) (a : Dens κs girthReportKinds.ps) → girthReportReads.Asked κs a

@@ -11,9 +11,8 @@ use mir.Syntax.{w32, w64}
 use mir.Val.{SFits, toZ, ofZ}
 use mir.Facts.{sfits-widen}
 use mir.ValLaws.{toZ-ofZ}
-use borrow.Author.Tests.{ltb-false}
 use Rattle.refusal.specs.Outcome.{Outcome, accepted, refused, Ground, outcome, condition}
-use Rattle.refusal.proofs.Outcomes.{accepted-not, accepted-value}
+use Rattle.refusal.proofs.Outcomes.{accepted-within}
 use Rattle.columns.specs.declared.Kind.the-variants.{Double}
 use Rattle.record.specs.Layout.{mostGroups, capacity}
 use Rattle.table.specs.Calls.{addSections, columnGrounds, addGrounds, addOutcome, mergeSections, mergeGrounds, mergeOutcome}
@@ -33,10 +32,7 @@ widened z fits = ap (λ (y : ℤ). toZ w64 (ofZ w64 y)) (toZ-ofZ w32 z fits) ∙
 -- an accepted call gives no more groups than a table can have, if it refuses with 12 those that have no room
 module _ (gs : List Ground) (len m : ℕ) (room : condition 12 gs ≡ ltb (capacity len) m) where
   groups-le : {n : ℕ} → outcome gs m ≡ accepted n → n ≤ mostGroups
-  groups-le {n} e =
-      let h = ltb-false (capacity len) m (sym room ∙ accepted-not 12 gs m e) in
-      let q : m ≡ n = accepted-value gs m e in
-      omega (arith, min-le-right (len / 64) mostGroups)
+  groups-le e = omega (arith, accepted-within 12 gs (capacity len) m room e, min-le-right (len / 64) mostGroups)
 
 pub add-groups : (s : List ℕ) (g : ℕ) (ks vs : List ℕ) (workLen : ℕ) {n : ℕ} → addOutcome Double s g ks vs workLen ≡ accepted n → n ≤ mostGroups
 unfolding addGrounds columnGrounds

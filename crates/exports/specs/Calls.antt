@@ -1,4 +1,4 @@
--- What an exported call returns and writes out, by the outcome that document 01 fixes.
+-- What an exported call returns and writes out, by the outcome that its conditions fix.
 use Prim.Native.Nat.{ℕ}
 use lib.IntN.{ℤ, pos, negℤ}
 use lib.Ieee.{Float, binary64, toBits}

@@ -10,8 +10,10 @@ ghost use lib.Ieee.{binary64};
 ghost use lib.Ieee.Scale.{finite};
 ghost use Rattle.refusal.specs.Number.{numberOf};
 ghost use Rattle.refusal.specs.Outcome.{accepted};
+ghost use Rattle.output.specs.Output.{outputAnswer};
 ghost use Rattle.columns.specs.declared.Kind.the-variants.{Double};
 ghost use Rattle.patch.specs.File.{readOutcome, keyStart, valueStart};
+ghost use Rattle.patch.specs.Serializer.{writeOutcome, writeLeaves};
 ghost use Rattle.record.specs.Layout.{mostGroups};
 ghost use Rattle.table.specs.Calls.{addOutcome, addLeaves, cleared, mergeOutcome, mergeLeaves};
 ghost use Rattle.table.specs.Answer.{tableAnswer};
@@ -22,9 +24,9 @@ ghost use Rattle.exports.specs.Calls.{returnsCount, returnsZero, writes,
 use finish::FigureAnswer;
 use finish::LineAnswer;
 use finish::SectionSum;
+use output::OutputAnswer;
 use patch::Reading;
 use refusal::Refusal;
-use report::Printed;
 use table::TableAnswer;
 
 // Minus a refusal's number.
@@ -150,14 +152,31 @@ pub extern "C" fn girth_line(
     }
 }
 
+// The length of what was written to a lent buffer, or minus the refusal's number.
+fn length_or_minus(a: OutputAnswer) -> i64
+    requires { ⌜ ((n : ℕ) → outputAnswer a ≡ accepted n → n < 2 ^ 63) ⌝ }
+    ensures { λ r. ⌜ r ≡ returnsCount (outputAnswer a) ⌝ }
+{
+    match a {
+        OutputAnswer::Length(n) => n as i64,
+        OutputAnswer::Refused(r) => minus(r),
+    }
+}
+
+// The patch file of two columns, without notes, at the front of out: its length, or minus the refusal's number.
+#[no_mangle]
+pub extern "C" fn girth_write(keys: &[u8], values: &[u8], out: &mut [u8]) -> i64
+    ensures answer { λ r. ⌜ r ≡ returnsCount (writeOutcome (now (keys .entry)) (now (values .entry)) (length (now (out .entry)))) ⌝ }
+    ensures content { λ _. ⌜ now (out .exit) ≡ writeLeaves (now (keys .entry)) (now (values .entry)) (now (out .entry)) ⌝ }
+{
+    length_or_minus(patch::write(keys, values, out))
+}
+
 // The report of a patch file, at the front of out: the length of its text, or -16 where out is shorter.
 #[no_mangle]
 pub extern "C" fn girth_report(file: &[u8], out: &mut [u8]) -> i64
     ensures answer { λ r. ⌜ r ≡ returnsCount (printOutcome (now (out .entry)) (reportText (now (file .entry)))) ⌝ }
     ensures content { λ _. ⌜ now (out .exit) ≡ printLeaves (now (out .entry)) (reportText (now (file .entry))) ⌝ }
 {
-    match report::report(file, out) {
-        Printed::Length(n) => n as i64,
-        Printed::TooShort => -16,
-    }
+    length_or_minus(report::report(file, out))
 }

@@ -2,8 +2,8 @@
 use libc::STDERR_FILENO;
 use libc::STDIN_FILENO;
 use libc::STDOUT_FILENO;
+use output::OutputAnswer;
 use report::LONGEST_TEXT;
-use report::Printed;
 ghost use Prim.Native.Nat.{_-_, _≤_};
 ghost use mathlib.Core.Path.{_≡_};
 ghost use lib.ListN.{length, take};
@@ -48,12 +48,12 @@ fn read_all(buffer: &mut [u8]) -> Received
 fn print_report(file: &[u8]) {
     let mut text = [0u8; LONGEST_TEXT];
     match report::report(file, &mut text) {
-        Printed::Length(n) => {
+        OutputAnswer::Length(n) => {
             if !io::write_all(STDOUT_FILENO, &text[..n]) {
                 os::fail(b"girths: standard output");
             }
         }
-        Printed::TooShort => {
+        OutputAnswer::Refused(_) => {
             io::write_all(STDERR_FILENO, b"girths: the report is too long\n");
         }
     }

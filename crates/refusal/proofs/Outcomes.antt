@@ -1,13 +1,14 @@
 -- What an outcome says of its grounds, each named by its number and not by its place in the list.
-use Prim.Native.Nat.{ℕ, suc, _<_}
+use Prim.Native.Nat.{ℕ, suc, _<_, _≤_}
 use mathlib.Core.Path.{_≡_, refl, sym, ap, _∙_}
 use mathlib.Core.Bool.{Bool, true, false, cond, _&&_, true≢false}
 use mathlib.Core.List.{List, [], _∷_, _++_, append-nil}
 use native.Mathlib.Omega.{arith}
-use borrow.Author.Tests.{ltb-true, leb-true, eq-eqb, ne-eqb}
+use borrow.Author.Tests.{ltb-true, ltb-false, leb-true, eq-eqb, ne-eqb}
 use lib.Dec.{eqb, ltb, leb}
+use Rattle.lists.specs.Lists.{anyOf}
 use Rattle.lists.proofs.Booleans.{both-true, both-false}
-use Rattle.refusal.specs.Outcome.{accepted, refused, Ground, ground, outcome, condition, IsLowest, risingFrom, isRefusal, isGround}
+use Rattle.refusal.specs.Outcome.{accepted, refused, Ground, ground, outcome, condition, IsLowest, risingFrom, isRefusal, isGround, IsFirst}
 
 pub accepted≢refused : {A : Type 0} {x : A} {n : ℕ} → refused n ≡ accepted x → ⊥
 accepted≢refused e = let z : _≡_ {A = ℕ} 0 1 = cc in omega arith
@@ -33,6 +34,12 @@ accepted-not n (c ∷ cs) x e = let f = first c cs x e in cond-false (eqb n (c .
 pub accepted-value : {A : Type 0} (gs : List Ground) (x : A) {y : A} → outcome gs x ≡ accepted y → x ≡ y
 accepted-value [] x e = cc
 accepted-value (c ∷ cs) x e = accepted-value cs x (first c cs x e .1)
+
+-- so a number that refusal k bounds is within its bound
+pub accepted-within : (k : ℕ) (gs : List Ground) (bound m : ℕ) → condition k gs ≡ ltb bound m → {n : ℕ} → outcome gs m ≡ accepted n → n ≤ bound
+accepted-within k gs bound m h e =
+    let l = ltb-false bound m (sym h ∙ accepted-not k gs m e) in
+    omega (arith, accepted-value gs m e)
 
 -- ---- the number given
 
@@ -73,6 +80,25 @@ lowest l (c ∷ cs) x {n} r e =
     go false f ih q =
         let i = ih q in
         (rw (ne-eqb n (c .refusal) (λ z. true≢false (sym (i .0) ∙ f n (omega arith)))) (i .0), λ m h. cond-false (eqb m (c .refusal)) refl (i .1 m h))
+
+-- the number given is that of the first ground that holds
+pub first-held : {A : Type 0} (gs : List Ground) (x : A) {n : ℕ} → outcome gs x ≡ refused n → IsFirst n gs
+unfolding anyOf
+first-held [] x e = absurd (accepted≢refused (sym e))
+first-held (c ∷ cs) x {n} e = go (c .holds) (first-held cs x) e
+  where
+    go : (b : Bool) → (outcome cs x ≡ refused n → IsFirst n cs) → cond b (refused (c .refusal)) (outcome cs x) ≡ refused n → IsFirst n (ground (c .refusal) b ∷ cs)
+    go true ih q = let z : c .refusal ≡ n = cc in record { earlier = []; later = cs; listed = ap (λ (k : ℕ). ground k true ∷ cs) z; none-earlier = refl }
+    go false ih q = let i = ih q in record { earlier = ground (c .refusal) false ∷ i .earlier; later = i .later; listed = ap (λ (l : List Ground). ground (c .refusal) false ∷ l) (i .listed); none-earlier = i .none-earlier }
+
+-- and where a ground is the first that holds, its number is given
+pub held-first : {A : Type 0} (gs : List Ground) (x : A) {n : ℕ} → IsFirst n gs → outcome gs x ≡ refused n
+unfolding anyOf
+held-first gs x {n} f = ap (λ (l : List Ground). outcome l x) (f .listed) ∙ go (f .earlier) (f .none-earlier)
+  where
+    go : (bs : List Ground) → anyOf (λ (c : Ground). c .holds) bs ≡ false → outcome (bs ++ (ground n true ∷ f .later)) x ≡ refused n
+    go [] e = refl
+    go (c ∷ cs) e = let p = both-false (c .holds) (anyOf (λ (c : Ground). c .holds) cs) e in rw (p .0) (go cs (p .1))
 
 -- ---- further grounds
 

@@ -1,9 +1,9 @@
--- The number that document 01 gives each refusal.
+-- The number that document 01, or a card, gives each refusal.
 use Prim.Native.Nat.{ℕ}
 use Rattle.refusal.specs.declared.Refusal.{Refusal}
-use Rattle.refusal.specs.declared.Refusal.the-variants.{FileTooLong, FileTooShort, MarkMissing, KeyDistance, ValueDistance, ColumnsOverlap, TableNotSound, WorkTooShort, ColumnLengths, RowNotFinite, TooManyRows, TooManyKeys, SectionAbsent, SumTooLarge, FigureTooLarge}
+use Rattle.refusal.specs.declared.Refusal.the-variants.{FileTooLong, FileTooShort, MarkMissing, KeyDistance, ValueDistance, ColumnsOverlap, TableNotSound, WorkTooShort, ColumnLengths, RowNotFinite, TooManyRows, TooManyKeys, SectionAbsent, SumTooLarge, FigureTooLarge, OutputTooShort, TooManyFileRows}
 
--- document 01's number of each refusal
+-- document 01's number of each refusal, and the cards' from 16 on
 abbrev pub numberOf : Refusal → ℕ
 numberOf FileTooLong = 1
 numberOf FileTooShort = 2
@@ -20,3 +20,5 @@ numberOf TooManyKeys = 12
 numberOf SectionAbsent = 13
 numberOf SumTooLarge = 14
 numberOf FigureTooLarge = 15
+numberOf OutputTooShort = 16
+numberOf TooManyFileRows = 17

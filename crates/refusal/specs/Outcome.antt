@@ -2,7 +2,8 @@
 use Prim.Native.Nat.{ℕ, suc, _<_}
 use mathlib.Core.Path.{_≡_}
 use mathlib.Core.Bool.{Bool, true, false, cond, _&&_, _||_}
-use mathlib.Core.List.{List, [], _∷_}
+use mathlib.Core.List.{List, [], _∷_, _++_}
+use Rattle.lists.specs.Lists.{anyOf}
 use lib.Dec.{eqb, leb}
 
 -- the values of an accepted call, or a refused one's number
@@ -47,3 +48,10 @@ isRefusal n (refused m) = eqb n m
 abbrev pub isGround : ℕ → List Ground → Bool
 isGround n [] = false
 isGround n (c ∷ cs) = eqb n (c .refusal) || isGround n cs
+
+-- a ground of number n holds, and none that stands before it does: a card's order of refusals goes before the lowest number
+pub record IsFirst (n : ℕ) (gs : List Ground) : Type 0 where
+  pub earlier : List Ground
+  pub later : List Ground
+  pub listed : gs ≡ earlier ++ (ground n true ∷ later)
+  pub none-earlier : anyOf (λ (c : Ground). c .holds) earlier ≡ false

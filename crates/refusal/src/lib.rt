@@ -2,7 +2,7 @@
 ghost use mathlib.Core.Path.{_≡_};
 ghost use Rattle.refusal.specs.Number.{numberOf};
 
-// Document 01's table of refusals, in its order.
+// Document 01's table of refusals, in its order, and the cards' further lines.
 pub enum Refusal {
     FileTooLong,
     FileTooShort,
@@ -19,9 +19,11 @@ pub enum Refusal {
     SectionAbsent,
     SumTooLarge,
     FigureTooLarge,
+    OutputTooShort,
+    TooManyFileRows,
 }
 
-// The number that document 01 gives a refusal.
+// The number that document 01 or a card gives a refusal.
 pub fn number_of(r: Refusal) -> u32
     ensures { λ n. ⌜ n ≡ numberOf r ⌝ }
 {
@@ -41,5 +43,7 @@ pub fn number_of(r: Refusal) -> u32
         Refusal::SectionAbsent => 13,
         Refusal::SumTooLarge => 14,
         Refusal::FigureTooLarge => 15,
+        Refusal::OutputTooShort => 16,
+        Refusal::TooManyFileRows => 17,
     }
 }

@@ -1,22 +1,21 @@
 -- The whole text by the outcomes of reading and adding, and printing it into a lent buffer.
 use Prim.Native.Nat.{ℕ, _<_, _≤_}
 use mathlib.Core.Path.{_≡_, refl, sym, ap, _∙_}
-use mathlib.Core.Bool.{Bool, true, false, cond}
-use mathlib.Core.List.{List, _++_}
+use mathlib.Core.List.{List, [], _∷_, _++_}
 use native.Mathlib.Omega.{arith}
-use borrow.Author.Tests.{lt-ltb, le-ltb, ltb-false}
-use lib.Dec.{ltb}
+use borrow.Author.Tests.{lt-ltb, le-ltb}
 use lib.ListN.{length, take, drop}
 use lib.Seq.{length-take-le}
 use Rattle.codec.specs.Cells.{image}
 use Rattle.codec.proofs.Laws.{AreBytes}
 use Rattle.refusal.specs.Outcome.{accepted, refused}
+use Rattle.refusal.proofs.Outcomes.{accepted-within}
+use Rattle.output.specs.Output.{outputGround}
 use Rattle.columns.specs.declared.Kind.the-variants.{Double}
 use Rattle.patch.specs.File.{readOutcome, keyColumn, valueColumn}
 use Rattle.record.specs.Section.{sections}
 use Rattle.table.specs.Calls.{addSections, addOutcome, addLeaves}
 use Rattle.table.proofs.Accepted.{AcceptedTable, proper-none, add-left}
-use Rattle.lists.proofs.Booleans.{never}
 use Rattle.report.specs.Text.{tableBytes, refusalText, lineFeed, headLine, lineText, emptyTable, addText, columnsText, fileText, reportText}
 use Rattle.report.specs.Answer.{printOutcome, printLeaves}
 use Rattle.numerals.specs.Steps.{Continued}
@@ -61,8 +60,4 @@ module _ {s s′ w : List ℕ} {k r : ℕ} (p : Continued s 0 w k s′ r) (fits 
 
 -- an accepted printing fits
 pub printed-fits : (out w : List ℕ) (n : ℕ) → accepted n ≡ printOutcome out w → n ≤ length out
-printed-fits out w n e = by (ltb (length out) (length w)) (ltb-false (length out) (length w)) e
-  where
-    by : (b : Bool) → (b ≡ false → length w ≤ length out) → accepted n ≡ cond b (refused 16) (accepted (length w)) → n ≤ length out
-    by true h e = never cc
-    by false h e = let q : n ≡ length w = cc in rw q (h refl)
+printed-fits out w n e = accepted-within 16 (outputGround (length out) (length w) ∷ []) (length out) (length w) refl (sym e)

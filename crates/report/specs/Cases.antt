@@ -1,14 +1,14 @@
 -- Worked examples, computed from the definitions: document 01's report, refusals in a line and of a file.
-use Prim.Native.Nat.{ℕ, _+_, _*_}
+use Prim.Native.Nat.{ℕ}
 use mathlib.Core.Path.{_≡_, refl}
-use mathlib.Core.List.{List, [], _∷_, _++_, map}
-use lib.ListN.{length}
+use mathlib.Core.List.{List, [], _∷_, map}
 use lib.Ieee.{round, toBits, ofBits}
 use Rattle.codec.specs.Bytes.{number, bytes, numberAt}
 use Rattle.codec.specs.Cells.{cells, image}
 use Rattle.level.specs.Level.{top, topFrom, given, contribution}
 use Rattle.patch.specs.Cases.{reportInput}
-use Rattle.patch.specs.File.{mark, marked, outside, overlap, readGrounds, readOutcome, column, keyColumn, valueColumn}
+use Rattle.patch.specs.Serializer.{trailerOf, fileOf}
+use Rattle.patch.specs.File.{marked, outside, overlap, readGrounds, readOutcome, column, keyColumn, valueColumn}
 use Rattle.columns.specs.declared.Kind.the-variants.{Double}
 use Rattle.columns.specs.Columns.{width, rowsFrom, rowsOf, columnsFit}
 use Rattle.record.specs.Keys.{rising}
@@ -22,9 +22,9 @@ use Rattle.lists.specs.Lists.{anyOf}
 use Rattle.numerals.specs.Numerals.{digit, digits, decimalIn, decimal, integer}
 use Rattle.report.specs.Text.{headLine, refusalText, figureField, lastFields, lineWith, lineText, addText, columnsText, fileText, reportText}
 
--- a key column, a value column and the trailer
-fileOf : List ℕ → List ℕ → List ℕ
-fileOf ks vs = image (bytes 4) ks ++ image (bytes (width Double)) vs ++ bytes 4 (length ks) ++ bytes 4 ((4 + width Double) * length ks + 16) ++ bytes 4 (width Double * length ks + 16) ++ mark
+-- the file of rows with these section numbers and these bits
+rowsFile : List ℕ → List ℕ → List ℕ
+rowsFile ks vs = fileOf Double (image (bytes 4) ks) (image (bytes (width Double)) vs)
 
 -- the report of document 01's input
 sampleText : List ℕ
@@ -39,7 +39,7 @@ sampleText =
 
 -- section 5 with two rows 7FEFFFFFFFFFFFFF, section 4294967295 with the row 21474836.5 and section 0 with the row -0.25, the keys falling
 mixed : List ℕ
-mixed = fileOf (4294967295 ∷ 5 ∷ 5 ∷ 0 ∷ []) (0x41747AE148000000 ∷ 0x7FEFFFFFFFFFFFFF ∷ 0x7FEFFFFFFFFFFFFF ∷ 0xBFD0000000000000 ∷ [])
+mixed = rowsFile (4294967295 ∷ 5 ∷ 5 ∷ 0 ∷ []) (0x41747AE148000000 ∷ 0x7FEFFFFFFFFFFFFF ∷ 0x7FEFFFFFFFFFFFFF ∷ 0xBFD0000000000000 ∷ [])
 
 -- a negative figure, a sum refused and a figure refused
 mixedText : List ℕ
@@ -75,7 +75,7 @@ infiniteText =
     0x72 ∷ 0x65 ∷ 0x66 ∷ 0x75 ∷ 0x73 ∷ 0x65 ∷ 0x64 ∷ 0x20 ∷ 0x31 ∷ 0x30 ∷ 0x0A
     ∷ []
 
-reports : map reportText (reportInput ∷ mixed ∷ fileOf [] [] ∷ [] ∷ fileOf (1 ∷ []) (0x7FF0000000000000 ∷ []) ∷ [])
+reports : map reportText (reportInput ∷ mixed ∷ rowsFile [] [] ∷ [] ∷ rowsFile (1 ∷ []) (0x7FF0000000000000 ∷ []) ∷ [])
     ≡ sampleText ∷ mixedText ∷ headText ∷ refusedText ∷ infiniteText ∷ []
-unfolding reportInput sampleText fileOf mixed mixedText headText refusedText infiniteText reportText fileText columnsText addText lineText lineWith lastFields figureField refusalText headLine decimal decimalIn digit digits integer number bytes numberAt cells image marked outside overlap readGrounds readOutcome column keyColumn valueColumn rowsFrom rowsOf columnsFit addGrounds columnGrounds anyOf ofRow levelOf combine absorb added top topFrom given contribution rising sound soundRecords kept nearestDouble tooLarge millFigure beyond round toBits ofBits
+unfolding reportInput sampleText trailerOf fileOf rowsFile mixed mixedText headText refusedText infiniteText reportText fileText columnsText addText lineText lineWith lastFields figureField refusalText headLine decimal decimalIn digit digits integer number bytes numberAt cells image marked outside overlap readGrounds readOutcome column keyColumn valueColumn rowsFrom rowsOf columnsFit addGrounds columnGrounds anyOf ofRow levelOf combine absorb added top topFrom given contribution rising sound soundRecords kept nearestDouble tooLarge millFigure beyond round toBits ofBits
 reports = refl

@@ -16,13 +16,16 @@ ghost use Rattle.numerals.specs.Numerals.{decimal, hexadecimal};
 ghost use Rattle.numerals.specs.Steps.{Continued, longestBits};
 ghost use Rattle.columns.specs.declared.Kind.the-variants.{Double};
 ghost use Rattle.report.specs.Text.{tableGroups, space, lineFeed, refusalText, lastFields, lineWith, lineText, headLine, columnsText, reportText};
-ghost use Rattle.report.specs.Answer.{printedAnswer, printOutcome, printLeaves};
+ghost use Rattle.output.specs.Output.{outputAnswer};
+ghost use Rattle.report.specs.Answer.{printOutcome, printLeaves};
 ghost use Rattle.report.specs.Steps.{longestRefusal, longestKeyAndCount, longestFinishedLine, longestRefusedFields, longestLine, longestText};
 use finish::FinishedLine;
 use finish::LineAnswer;
 use finish::SectionSum;
+use output::OutputAnswer;
 use patch::Reading;
 use record::Record;
+use refusal::Refusal;
 use table::TableAnswer;
 
 // The longest text.
@@ -30,12 +33,6 @@ pub const LONGEST_TEXT: usize = 4096;
 
 // The bytes of a table of 64 groups, and of its work buffer.
 const TABLE_BYTES: usize = 64 * 64;
-
-// What printing into a lent buffer answers: the text's length, or that the buffer is shorter.
-pub enum Printed {
-    Length(usize),
-    TooShort,
-}
 
 // "refused", a refusal's number and a line feed.
 fn print_refusal(text: &mut [u8], at: usize, n: u32) -> usize
@@ -169,15 +166,15 @@ fn print_file(text: &mut [u8], file: &[u8]) -> usize
 }
 
 // The report of a file, at the front of a lent buffer; a buffer that is too short is untouched.
-pub fn report(file: &[u8], out: &mut [u8]) -> Printed
-    ensures answer { λ r. ⌜ printedAnswer r ≡ printOutcome (now (out .entry)) (reportText (now (file .entry))) ⌝ }
+pub fn report(file: &[u8], out: &mut [u8]) -> OutputAnswer
+    ensures answer { λ r. ⌜ outputAnswer r ≡ printOutcome (now (out .entry)) (reportText (now (file .entry))) ⌝ }
     ensures content { λ r. ⌜ now (out .exit) ≡ printLeaves (now (out .entry)) (reportText (now (file .entry))) ⌝ }
 {
     let mut text = [0u8; LONGEST_TEXT];
     let n = print_file(&mut text, file);
     if out.len() < n {
-        return Printed::TooShort;
+        return OutputAnswer::Refused(Refusal::OutputTooShort);
     }
     codec::copy(out, &text, n);
-    Printed::Length(n)
+    OutputAnswer::Length(n)
 }

@@ -9,6 +9,10 @@ pub fn read(file: &[u8]) -> Result<Columns<'_>, u32> {
     number(girths::read(file))
 }
 
+pub fn write(keys: &[u8], values: &[u8], out: &mut [u8]) -> Result<usize, u32> {
+    number(girths::write(keys, values, out))
+}
+
 pub fn add(table: &mut [u8], g: u64, keys: &[u8], values: &[u8], work: &mut [u8]) -> Result<u64, u32> {
     number(girths::add(table, g, keys, values, work))
 }

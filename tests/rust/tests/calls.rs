@@ -141,6 +141,31 @@ fn read_both(file: &[u8]) -> Result<usize, u32> {
     got.map(|c| c.rows)
 }
 
+/// One writing, compared with the model: the answer and every byte of the output. What was written is read back.
+fn write_both(keys: &[u8], values: &[u8], out: &mut [u8]) -> Result<usize, u32> {
+    let (expected, before) = (model::write(keys, values, out), out.to_vec());
+    let got = calls::write(keys, values, out);
+    match &expected {
+        Ok((n, bytes)) => {
+            assert!(got == Ok(*n) && out == bytes, "{got:?}, expected {n}");
+            assert_eq!(read_both(&out[..*n]), Ok(keys.len() / 4));
+            let c = calls::read(&out[..*n]).unwrap();
+            assert!(c.keys == keys && c.values == values, "the columns are read as they were lent");
+        }
+        Err(e) => assert!(got == Err(*e) && out == before, "{got:?}, expected refusal {e}"),
+    }
+    got
+}
+
+/// An accepted file, written again from its two columns.
+fn rewritten(file: &[u8]) -> Vec<u8> {
+    let (n, k, v) = model::read(file).unwrap();
+    let mut out = vec![0xA5; 65536];
+    let length = write_both(&file[k..k + 4 * n], &file[v..v + 8 * n], &mut out).unwrap();
+    out.truncate(length);
+    out
+}
+
 #[test]
 fn bench_book() {
     let one = |b: u64| Section::of_rows(&[b]);
@@ -242,6 +267,138 @@ fn files() {
         seen[read_both(&f).err().unwrap_or(0) as usize] += 1;
     }
     assert!(seen.iter().all(|&n| n > 0), "{seen:?}");
+}
+
+/// 9, then 17, then 16: each alone, and each where those after it hold too.
+#[test]
+fn refusals_of_writing() {
+    let mut r = Random(7);
+    let bytes = r.bytes(8 * 5461 + 7);
+    for (keys, values, room, answer) in [
+        (8, 8, 99, Err(9)),
+        (0, 8, 99, Err(9)),
+        (4, 0, 99, Err(9)),
+        (4, 16, 99, Err(9)),
+        (8, 8, 0, Err(9)),
+        (4, 9, 28, Err(9)),
+        (7, 8, 27, Err(9)),
+        (4 * 5461, 8 * 5460, 70000, Err(9)),
+        (4 * 5460, 8 * 5461, 70000, Err(9)),
+        (4 * 5461 + 1, 8 * 5461, 70000, Err(9)),
+        (4 * 5461, 8 * 5461 + 7, 70000, Err(9)),
+        (4 * 5461, 8 * 5460, 65535, Err(9)),
+        (4 * 5460, 8 * 5461, 65535, Err(9)),
+        (4 * 5461 + 3, 8 * 5461 + 7, 0, Err(9)),
+        (4 * 5461, 8 * 5461, 70000, Err(17)),
+        (4 * 5461, 8 * 5461, 65548, Err(17)),
+        (4 * 5461, 8 * 5461, 65547, Err(17)),
+        (4 * 5461, 8 * 5461, 0, Err(17)),
+        (4 * 5460, 8 * 5460, 65535, Err(16)),
+        (4 * 5460, 8 * 5460, 0, Err(16)),
+        (4, 8, 27, Err(16)),
+        (0, 0, 15, Err(16)),
+        (0, 0, 0, Err(16)),
+        (4 * 5460, 8 * 5460, 65536, Ok(65536)),
+        (4 * 5460, 8 * 5460, 65537, Ok(65536)),
+        (4, 8, 28, Ok(28)),
+        (4, 8, 29, Ok(28)),
+        (0, 0, 16, Ok(16)),
+    ] {
+        assert_eq!(write_both(&bytes[..keys], &bytes[..values], &mut r.bytes(room)), answer, "{keys}, {values}, {room}");
+    }
+}
+
+/// Columns of any bytes, a part of them with lengths that do not fit, and outputs from too short to much longer.
+#[test]
+fn writings() {
+    let mut r = Random(8);
+    let mut seen = [0; 18];
+    for turn in 0..20000 {
+        let n = match turn % 100 {
+            0 => 5460,
+            1 => 5461,
+            2 => 5450 + r.below(20),
+            3 => 5461 + r.below(3000),
+            _ => r.below(12),
+        } as usize;
+        let mut lengths = [4 * n, 8 * n];
+        if r.chance(6) {
+            lengths[0] = (lengths[0] + r.below(9) as usize).saturating_sub(4);
+        }
+        if r.chance(6) {
+            lengths[1] = (lengths[1] + r.below(17) as usize).saturating_sub(8);
+        }
+        let (k, v) = (r.bytes(lengths[0]), r.bytes(lengths[1]));
+        let room = match r.below(6) {
+            0 => 12 * n + 15,
+            1 => r.below(12 * n as u64 + 16) as usize,
+            2 => 12 * n + 16,
+            3 => 12 * n + 17,
+            _ => 12 * n + 16 + r.below(500) as usize,
+        };
+        seen[write_both(&k, &v, &mut r.bytes(room)).err().unwrap_or(0) as usize] += 1;
+    }
+    assert!([0, 9, 16, 17].iter().all(|&i| seen[i] > 100), "{seen:?}");
+}
+
+/// Accepted files with notes, with either column first, without rows: written again they keep their rows in order, and written once more their bytes.
+#[test]
+fn rewritings() {
+    let mut r = Random(9);
+    let (mut same, mut shorter, mut empty, mut added) = (0, 0, 0, 0);
+    for turn in 0..4000 {
+        let n = if turn % 50 == 0 { 5460 - r.below(3) } else { r.below(12) } as usize;
+        let span = 1 + r.below(16);
+        let rows: Vec<(u32, u64)> = r.rows(n).into_iter().map(|b| (r.below(span) as u32, b)).collect();
+        let (k, mut v) = columns(&rows);
+        if r.chance(8) && n > 0 {
+            v[8 * n - 2..].copy_from_slice(&[0xF0 + r.below(16) as u8, 0x7F]);
+        }
+        let most = if r.chance(4) { 0 } else { ((65520 - 12 * n) / 3).min(9) as u64 };
+        let notes: Vec<Vec<u8>> = (0..3).map(|_| r.below(most + 1) as usize).map(|m| vec![0xEE; m]).collect();
+        let values_first = r.chance(2);
+        let mut f = file(&notes[0], &k, &notes[1], &v, &notes[2], values_first);
+        if r.chance(3) {
+            // a distance that puts a column, or a part of it, on notes
+            let at = f.len() - [12, 8][r.below(2) as usize];
+            f[at] = f[at].wrapping_add(r.below(9) as u8);
+        }
+        let Ok((n, k, v)) = model::read(&f) else { continue };
+        let (keys, values) = (&f[k..k + 4 * n], &f[v..v + 8 * n]);
+
+        let once = rewritten(&f);
+        assert_eq!(once.len(), 12 * n + 16);
+        let c = calls::read(&once).unwrap();
+        assert_eq!((c.rows, c.keys, c.values), (n, keys, values));
+        assert_eq!(rewritten(&once), once);
+        assert!(once.len() < f.len() || n == 0 || (once == f) != values_first);
+        same += (once == f) as u32;
+        shorter += (once.len() < f.len()) as u32;
+        empty += (n == 0) as u32;
+
+        // what is read from the rewritten file does what the file's rows do, whole and in two parts
+        let groups = r.below(12) as usize;
+        let (start, g) = table(&mut r, groups, 16, span);
+        let add = |t: &mut Vec<u8>, g, c: calls::Columns| calls::add(t, g, c.keys, c.values, &mut [1; 64 * 17]);
+        let (mut whole, mut again) = (start.clone(), start.clone());
+        let answer = add(&mut whole, g, calls::read(&f).unwrap());
+        assert_eq!((add(&mut again, g, c), &again), (answer, &whole));
+        let (mut text, mut other) = ([0; 4096], [0; 4096]);
+        assert_eq!(calls::report(&f, &mut text), calls::report(&once, &mut other));
+        assert_eq!(text, other);
+        if answer.is_ok() {
+            let cut = r.below(n as u64 + 1) as usize;
+            let (mut t, mut groups) = (start, g);
+            for (keys, values) in [(&keys[..4 * cut], &values[..8 * cut]), (&keys[4 * cut..], &values[8 * cut..])] {
+                let mut part = vec![0xA5; 65536];
+                let length = write_both(keys, values, &mut part).unwrap();
+                groups = add(&mut t, groups, calls::read(&part[..length]).unwrap()).unwrap();
+            }
+            assert!(Ok(groups) == answer && t == whole);
+            added += 1;
+        }
+    }
+    assert!([same, shorter, empty, added].iter().all(|&n| n > 100), "{same} {shorter} {empty} {added}");
 }
 
 /// A sound record with totals of any size that its count allows.
@@ -456,7 +613,7 @@ fn samples() {
     assert!(files >= 16);
 }
 
-/// A file that tools/mkpatch makes is accepted, and has the rows of its text.
+/// A file that tools/mkpatch makes is accepted, has the rows of its text, and is what the library writes.
 #[test]
 fn made_files() {
     use std::io::Write;
@@ -469,10 +626,10 @@ fn made_files() {
         (out.status.success(), out.stdout)
     };
     let (good, data) = make("# two sections\n1 1.0\n2 0.125\n\n1 0.5\n");
-    assert!(good && read_both(&data) == Ok(3));
+    assert!(good && read_both(&data) == Ok(3) && rewritten(&data) == data);
     assert_eq!(report_both(&data, 4096), "section rows bits hundredths\n1 2 3FF8000000000000 150\n2 1 3FC0000000000000 13\n");
     let most: String = (0..5460).map(|i| format!("{} {}.25\n", i % 64, i)).collect();
     let (good, data) = make(&most);
-    assert!(good && read_both(&data) == Ok(5460));
+    assert!(good && read_both(&data) == Ok(5460) && rewritten(&data) == data);
     assert!(make("").0 && !make(&(most + "1 1\n")).0 && !make("1 inf\n").0 && !make("4294967296 1\n").0 && !make("x\n").0);
 }

@@ -1,9 +1,10 @@
 use mathlib.Core.Path.{_≡_, sym, ap, _∙_}
 use native.Mathlib.Omega.{arith}
 use mir.Syntax.{w64}
-use mir.ValLaws.{toZ-pos}
+use mir.Val.{SFits}
+use mir.ValLaws.{toZ-ofZ}
 use Rattle.report.specs.Text.{reportText}
-use Rattle.report.specs.Answer.{printedAnswer, printLeaves}
+use Rattle.report.specs.Answer.{printLeaves}
 use Rattle.report.proofs.Whole.{printed-fits}
 use Rattle.exports.specs.Calls.{returnsCount}
 use borrow.Author.Needs.{needs}
@@ -19,29 +20,20 @@ leaves-here : (c : tie.After-report) → c .report .last .1 .0 ≡ printLeaves (
 leaves-here c = c .report .ensures .1
 
 -- a text that fits a slice is shorter than 2^63
-cast-result : tie.Need-cast-result
-cast-result c =
-    let s = start (c .before .before .before .before .before) .args in
-    let n = c .before .n .given in
-    let o = ap printedAnswer (sym (n .1)) ∙ c .before .before .before .before .before .report .ensures .0 in
-    let most = printed-fits (s .out .now) (reportText (s .file .now)) (n .0 .0) o in
-    search needs
+length-or-minus-requires : tie.Need-length-or-minus-requires
+length-or-minus-requires c κs = λ n e.
+    let w = c .before .before in
+    let s = start w .args in
+    let most = printed-fits (s .out .now) (reportText (s .file .now)) n (sym e ∙ w .report .ensures .0) in
+    omega arith
 
 returns : tie.Need-returns
 returns c =
-    let s = start (c .before .before .before .before .before) .args in
-    let n = c .before .n .given in
-    let o = ap printedAnswer (sym (n .1)) ∙ c .before .before .before .before .before .report .ensures .0 in
-    let most = printed-fits (s .out .now) (reportText (s .file .now)) (n .0 .0) o in
-    (toZ-pos w64 (n .0 .0) (omega arith) ∙ ap (returnsCount) o, leaves-here (c .before .before .before .before .before))
-
-returns-2 : tie.Need-returns-2
-returns-2 c =
-    let o = ap printedAnswer (sym (c .enum-told .given .1)) ∙ c .before .before .before .before .report .ensures .0 in
-    (ap (returnsCount) o, leaves-here (c .before .before .before .before))
+    let a = c .before .before .before in
+    let w = c .length-or-minus in
+    let f : SFits w64 (w .result) = search needs in
+    (toZ-ofZ w64 (w .result) f ∙ w .ensures ∙ ap returnsCount (a .report .ensures .0), leaves-here a)
 
 pub girth-report-spec : {M : Type 1} → statement M
 girth-report-spec =
-    tie.close
-    (tie.spec (λ c κs. search needs) (λ c. search needs) cast-result (λ c. search needs) (λ c. search needs) returns (λ c. search needs)
-    returns-2)
+    tie.close (tie.spec (λ c κs. search needs) length-or-minus-requires (λ c. search needs) returns)

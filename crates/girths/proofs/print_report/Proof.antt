@@ -4,7 +4,7 @@ use native.Mathlib.Omega.{arith}
 use lib.ListN.{length, replicate}
 use lib.Seq.{length-take-le}
 use Rattle.report.specs.Text.{reportText}
-use Rattle.report.specs.Answer.{printedAnswer}
+use Rattle.output.specs.Output.{outputAnswer}
 use Rattle.report.proofs.Whole.{printed-fits}
 use borrow.Author.Needs.{needs}
 use Rattle.girths.proofs.print_report.Statement.{statement}
@@ -13,7 +13,7 @@ use Rattle.girths.proofs.print_report.Tie as tie
 fits : (d : tie.After-n) → d .n .given .0 .0 ≤ length (d .before .before .before .report .last .1 .0)
 fits d =
     let r = d .before .before .before .report in
-    let h : d .n .given .0 .0 ≤ 4096 = printed-fits (replicate 4096 0) (reportText (d .before .before .before .before .before .before .args .file .now)) (d .n .given .0 .0) (sym (ap printedAnswer (d .n .given .1)) ∙ r .ensures .0) in
+    let h : d .n .given .0 .0 ≤ 4096 = printed-fits (replicate 4096 0) (reportText (d .before .before .before .before .before .before .args .file .now)) (d .n .given .0 .0) (sym (ap outputAnswer (d .n .given .1)) ∙ r .ensures .0) in
     omega (arith, r .kept .1 .0)
 
 array-share-prefix-text : tie.Need-array-share-prefix-text
