@@ -1,4 +1,5 @@
 """The Python module of bindings/python: its calls, its refusals, and what it checks before a pointer is passed."""
+import ctypes
 import doctest
 import os
 import pathlib
@@ -8,6 +9,8 @@ import struct
 import subprocess
 import sys
 import tempfile
+from collections import Counter
+from fractions import Fraction
 
 ROOT = pathlib.Path(__file__).resolve().parent.parent
 MODULE = ROOT / 'bindings' / 'python'
@@ -15,7 +18,7 @@ sys.dont_write_bytecode = True
 sys.path.insert(0, str(MODULE))
 import girths  # noqa: E402
 
-HEAD = 'section rows bits hundredths\n'
+HEAD = 'section rows bits hundredths side\n'
 
 
 def pack(rows):
@@ -53,15 +56,15 @@ def record_line(table, g, key):
     """A line of the report, from the calls on a table."""
     start = f'{key} {struct.unpack_from("<I", table, 64 * keys_of(table, g).index(key) + 4)[0]} '
     try:
-        total = girths.bits(girths.sum(table, g, key))
+        total, side = girths.sum(table, g, key)
     except girths.Refused as e:
         return start + f'refused {e.number}\n'
     try:
         line = girths.line(table, g, key)
     except girths.Refused as e:
-        return start + f'{total} refused {e.number}\n'
-    assert line.figure == girths.figure(table, g, key)
-    return f'{line.section} {line.rows} {girths.bits(line.sum)} {line.figure}\n'
+        return start + f'{girths.bits(total)} refused {e.number}\n'
+    assert (girths.bits(line.sum), line.side, line.figure) == (girths.bits(total), side, girths.figure(table, g, key))
+    return f'{line.section} {line.rows} {girths.bits(line.sum)} {line.figure} {line.side}\n'
 
 
 def keys_of(table, g):
@@ -182,6 +185,50 @@ def test_refusals():
     refused(7, girths.merge, full, g, b'', 1)
 
 
+def kept(record):
+    """What a record keeps, as an exact number."""
+    top = struct.unpack_from('<I', record, 8)[0]
+    totals = [c * 2 ** 50 + s for s, c in struct.iter_unpack('<Qq', record[16:])]
+    return sum(t * Fraction(2) ** (40 * (top - i) - 1074) for i, t in enumerate(totals))
+
+
+def test_sides():
+    """Sums beside the float that Python rounds an exact fraction to, and each side for each sign of sums and of lines."""
+    r, seen = random.Random(3), Counter()
+    for i in range(3000):
+        sign, scale = r.choice((1, -1)), 2.0 ** r.choice((0, 0, 20, -30, -900, 900, -1022))
+        last = r.choice((1, -1)) * r.choice((2.0 ** -53, 2.0 ** -53, 2.0 ** -54, 3 * 2.0 ** -54, 2.0 ** -80, 0.0, r.random() * 2.0 ** -50))
+        first = r.choice((1.0, 1 + 2.0 ** -52, 2 - 2.0 ** -52, 2 - 2.0 ** -51, 1 + r.random(), r.randrange(10, 30) / 10))
+        table, g = table_of([(5, sign * scale * first), (5, sign * scale * last)])
+        exact = kept(bytes(table[:64]))
+        found, nearest = girths.sum(table, g, 5), float(exact)
+        assert type(found) is girths.Sum and girths.bits(found.sum) == girths.bits(nearest)
+        assert found.side == (nearest > exact) - (nearest < exact), (scale, first, last)
+        seen['sum', sign, found.side] += 1
+        try:
+            line = girths.line(table, g, 5)
+        except girths.Refused as e:
+            assert e.number == 15
+            seen['refused', sign, found.side] += 1
+            continue
+        assert line == (5, 2, found.sum, girths.figure(table, g, 5), found.side)
+        seen['line', sign, found.side] += 1
+    assert len(seen) == 18 and min(seen.values()) > 20, seen
+
+
+def test_zeros_of_refused_calls():
+    """What a refused call gives by its pointers, which the calls of the module do not show."""
+    rounded, huge = table_of([(1, 21474836.5), (1, 2.0 ** -30)]), table_of([(1, 1.7976931348623157e308)] * 2)
+    assert girths.sum(*rounded, 1) == (21474836.5, -1)
+    for (table, g), key, number in (rounded, 2, 13), (huge, 1, 14), (rounded, 1, 15), ((rounded[0], 65), 1, 7):
+        for name, kinds in ('girth_sum', 'Qq'), ('girth_line', 'QQqq'):
+            if (name, number) == ('girth_sum', 15):
+                continue
+            outs = [{'Q': ctypes.c_uint64, 'q': ctypes.c_int64}[kind](9) for kind in kinds]
+            answer = getattr(girths._library(), name)(*girths._Lent('', table).words, g, key, *map(ctypes.byref, outs))
+            assert (answer, {out.value for out in outs}) == (-number, {0}), (name, number, outs)
+
+
 def test_same_words_in_rust():
     text = (ROOT / 'bindings' / 'rust' / 'src' / 'lib.rs').read_text()
     words = re.findall(r'^    "(.*)",$', text[text.index('const GROUNDS'):text.index('];', text.index('const GROUNDS'))], re.M)
@@ -231,7 +278,7 @@ def test_checks_of_arguments():
     whole = bytearray(256)
     halves = memoryview(whole)[:128], memoryview(whole)[128:]
     assert girths.merge(halves[0], 0, halves[1], 0) == 0
-    assert girths.add(halves[0], 0, *pack([(1, 1.0)]), halves[1]) == 1 and girths.sum(whole, 1, 1) == 1.0
+    assert girths.add(halves[0], 0, *pack([(1, 1.0)]), halves[1]) == 1 and girths.sum(whole, 1, 1) == (1.0, 0)
 
 
 def load(root, **environment):

@@ -9,7 +9,8 @@ import xml.etree.ElementTree
 
 ROOT = pathlib.Path(__file__).resolve().parent.parent
 SAMPLES = ROOT / 'samples'
-HEAD = 'section rows bits hundredths\n'
+HEAD = 'section rows bits hundredths side\n'
+FORMER_HEAD = 'section rows bits hundredths\n'
 SVG = '{http://www.w3.org/2000/svg}'
 
 
@@ -95,13 +96,19 @@ def written(folder, name, text):
     return str(path)
 
 
-def difference(a, b):
+def difference(a, b, differ=None):
     with tempfile.TemporaryDirectory() as folder:
         status, out, said = run('compare', written(folder, 'a', a), written(folder, 'b', b))
     lines = out.decode().splitlines()
-    assert said == '' and (status == 1) == (a != b), (status, said)
+    assert said == '' and status == (a != b if differ is None else differ), (status, said)
     assert status == 0 or lines.pop(0).startswith('A is ')
     return lines
+
+
+def without_sides(report):
+    """The same report with the head line and the fields that it has without sides."""
+    lines = [line.split(' ') for line in report.splitlines()]
+    return ''.join(' '.join(words if 'refused' in words else words[:-1]) + '\n' for words in lines)
 
 
 def test_compare_samples():
@@ -113,31 +120,66 @@ def test_compare_samples():
 
 
 def test_compare_words():
-    base = HEAD + '1 2 3FF8000000000000 150\n2 1 3FC0000000000000 13\n'
+    base = HEAD + '1 2 3FF8000000000000 150 0\n2 1 3FC0000000000000 13 1\n'
     def doctored(old, new):
         assert base.count(old) == 1
         return difference(base, base.replace(old, new))
     assert doctored('1 2 ', '1 3 ') == ['section 1: 2 rows in A, 3 in B']
     assert doctored('00 150', '01 150') == [
-        'section 1: sum 3FF8000000000000 (1.5 mm) in A, 3FF8000000000001 (1.5000000000000002 mm) in B, neighbouring doubles']
+        'section 1: sum 3FF8000000000000 (1.5 mm, not rounded) in A, 3FF8000000000001 (1.5000000000000002 mm, not rounded) in B, neighbouring doubles']
     assert doctored('00 150', '03 150')[0].endswith(', 3 doubles apart')
-    assert doctored(' 13', ' 12') == ['section 2: mill figure 13 hundredths in A, 12 hundredths in B, -1']
-    assert doctored('3FF8000000000000 150', 'refused 14') == ['section 1: sum 3FF8000000000000 (1.5 mm) in A, refused 14 in B']
-    assert doctored(' 150', ' refused 15') == ['section 1: mill figure 150 hundredths in A, refused 15 in B']
-    assert doctored('1 2 3FF8000000000000 150\n', '') == ['section 1: only in A, with 2 rows']
+    assert doctored(' 13 1', ' 12 1') == ['section 2: mill figure 13 hundredths in A, 12 hundredths in B, -1']
+    assert doctored('3FF8000000000000 150 0', 'refused 14') == ['section 1: sum 3FF8000000000000 (1.5 mm, not rounded) in A, refused 14 in B']
+    assert doctored(' 150 0', ' refused 15') == ['section 1: mill figure 150 hundredths in A, refused 15 in B']
+    assert doctored('00 13 1', '00 refused 15') == ['section 2: mill figure 13 hundredths in A, refused 15 in B']
+    assert doctored('150 0', '150 1') == ['section 1: the same sum 3FF8000000000000 is not rounded in A, rounded up in B']
+    assert doctored('13 1', '13 -1') == ['section 2: the same sum 3FC0000000000000 is rounded up in A, rounded down in B']
+    assert doctored('3FC0000000000000 13 1', 'BFC0000000000001 -12 -1') == [
+        'section 2: sum 3FC0000000000000 (0.125 mm, rounded up) in A, BFC0000000000001 (-0.12500000000000003 mm, rounded down) in B; '
+        'mill figure 13 hundredths in A, -12 hundredths in B, -25']
+    assert doctored('00 13 1', '01 refused 15') == [
+        'section 2: sum 3FC0000000000000 (0.125 mm, rounded up) in A, 3FC0000000000001 (0.12500000000000003 mm) in B, neighbouring doubles; '
+        'mill figure 13 hundredths in A, refused 15 in B']
+    assert doctored('1 2 3FF8000000000000 150 0\n', '') == ['section 1: only in A, with 2 rows']
     assert doctored('2 1 3FC', '3 1 3FC') == ['section 2: only in A, with 1 row', 'section 3: only in B, with 1 row']
     assert difference('refused 3\n', 'refused 4\n') == ['A is a refused file: refused 3', 'B is a refused file: refused 4']
     assert difference(HEAD, 'refused 3\n') == ['B is a refused file: refused 3']
-    zeros = HEAD + '1 1 {} 0\n'
+    zeros = HEAD + '1 1 {} 0 0\n'
     assert difference(zeros.format('0000000000000000'), zeros.format('8000000000000000')) != []
 
 
+def test_compare_without_sides():
+    """A report of an earlier season has four fields: it is compared in these, and the last line says so."""
+    for path in SAMPLES.glob('*.report'):
+        text = path.read_text()
+        former = without_sides(text)
+        assert difference(former, former)[0].startswith('the reports agree')
+        if text.startswith('refused'):
+            assert former == text
+            continue
+        assert difference(former, text, False)[1:] == ['A has no sides, which are not compared'], path
+        assert difference(text, former, False)[1:] == ['B has no sides, which are not compared'], path
+    base = HEAD + '1 2 3FF8000000000000 150 1\n2 1 refused 14\n3 1 41747AE148000000 refused 15\n'
+    former = without_sides(base)
+    assert former == FORMER_HEAD + '1 2 3FF8000000000000 150\n2 1 refused 14\n3 1 41747AE148000000 refused 15\n'
+    assert difference(former, base.replace('00 150', '01 150')) == [
+        'section 1: sum 3FF8000000000000 (1.5 mm) in A, 3FF8000000000001 (1.5000000000000002 mm, rounded up) in B, neighbouring doubles',
+        'A has no sides, which are not compared']
+    assert difference(former, former.replace('00 150', '01 150')) == [
+        'section 1: sum 3FF8000000000000 (1.5 mm) in A, 3FF8000000000001 (1.5000000000000002 mm) in B, neighbouring doubles']
+    assert difference(FORMER_HEAD, 'refused 3\n') == ['B is a refused file: refused 3']
+
+
 BAD = {
-    'no line feed': 'section rows bits hundredths', 'empty': '', 'another head': 'section rows bits\n', 'a missing field': HEAD + '1 2 3FF8000000000000\n',
-    'one field more': HEAD + '1 2 3FF8000000000000 150 1\n', 'two spaces': HEAD + '1  2 3FF8000000000000 150\n', 'small digits': HEAD + '1 2 3ff8000000000000 150\n',
-    'an infinity': HEAD + '1 2 7FF0000000000000 150\n', 'no rising keys': HEAD + '2 1 0000000000000000 0\n1 1 0000000000000000 0\n',
-    'a section twice': HEAD + 2 * '1 1 0000000000000000 0\n', 'words after a refusal': HEAD + '1 2 refused 14 1\n', 'a refusal of nothing': HEAD + '1 2 refused\n', 'no rows': HEAD + '1 refused 14\n',
+    'no line feed': HEAD.strip(), 'empty': '', 'another head': 'section rows bits\n', 'a missing field': HEAD + '1 2 3FF8000000000000\n',
+    'one field more': HEAD + '1 2 3FF8000000000000 150 0 1\n', 'two spaces': HEAD + '1  2 3FF8000000000000 150 0\n', 'small digits': HEAD + '1 2 3ff8000000000000 150 0\n',
+    'an infinity': HEAD + '1 2 7FF0000000000000 150 0\n', 'no rising keys': HEAD + '2 1 0000000000000000 0 0\n1 1 0000000000000000 0 0\n',
+    'a section twice': HEAD + 2 * '1 1 0000000000000000 0 0\n', 'words after a refusal': HEAD + '1 2 refused 14 1\n', 'a refusal of nothing': HEAD + '1 2 refused\n', 'no rows': HEAD + '1 refused 14\n',
     'a refusal and more': 'refused 3\n' + HEAD,
+    'a missing side': HEAD + '1 2 3FF8000000000000 150\n', 'no side': HEAD + '1 2 3FF8000000000000 150 2\n', 'a side with a plus': HEAD + '1 2 3FF8000000000000 150 +1\n',
+    'a side of minus zero': HEAD + '1 2 3FF8000000000000 150 -0\n', 'a side after a refusal': HEAD + '1 2 41747AE148000000 refused 15 0\n',
+    'a refused side': HEAD + '1 2 3FF8000000000000 150 refused 15\n',
+    'a side that the head lacks': FORMER_HEAD + '1 2 3FF8000000000000 150 0\n', 'fields in another order': 'section rows bits side hundredths\n1 2 3FF8000000000000 0 150\n',
 }
 
 
@@ -145,7 +187,7 @@ def test_bad_reports():
     with tempfile.TemporaryDirectory() as folder:
         for name, text in BAD.items():
             path = written(folder, name, text)
-            fails(2, 'is not' if not text.startswith(HEAD) else 'line ', 'compare', path, 'negative.report')
+            fails(2, 'line ' if text.startswith((HEAD, FORMER_HEAD)) else 'is not', 'compare', path, 'negative.report')
         fails(1, name, 'plot', 'negative.report', path)
     fails(2, 'none: No such file', 'compare', 'negative.report', 'none')
     fails(2, '.: Is a directory', 'compare', '.', 'negative.report')
@@ -191,19 +233,20 @@ def bars(svg):
 
 def full(change):
     """A report of 64 sections, with some lines changed."""
-    rows = {k: f'{k} {k % 9 + 1} {struct.pack(">d", 200 + k / 4).hex().upper()} {20000 + 25 * k}' for k in range(1, 65)}
+    rows = {k: f'{k} {k % 9 + 1} {struct.pack(">d", 200 + k / 4).hex().upper()} {20000 + 25 * k} 0' for k in range(1, 65)}
     rows.update(change)
     return HEAD + ''.join(line + '\n' for _, line in sorted(rows.items()) if line)
 
 
 CHANGES = {
-    7: '7 9 ' + struct.pack('>d', 200 + 7 / 4).hex().upper() + ' 20175',
-    12: '12 4 ' + struct.pack('>Q', struct.unpack('>Q', struct.pack('>d', 203.0))[0] + 1).hex().upper() + ' 20300',
+    7: '7 9 ' + struct.pack('>d', 200 + 7 / 4).hex().upper() + ' 20175 0',
+    12: '12 4 ' + struct.pack('>Q', struct.unpack('>Q', struct.pack('>d', 203.0))[0] + 1).hex().upper() + ' 20300 -1',
     20: '20 3 refused 14',
     21: '21 4 41747AE148000000 refused 15',
     30: '',
-    41: '41 6 C06A480000000000 -21025',
-    4294967295: '4294967295 4294967295 41747AE147AE147B 2147483647',
+    41: '41 6 C06A480000000000 -21025 1',
+    52: '52 8 ' + struct.pack('>d', 213.0).hex().upper() + ' 21300 -1',
+    4294967295: '4294967295 4294967295 41747AE147AE147B 2147483647 1',
 }
 
 
@@ -211,14 +254,29 @@ def test_plot_two():
     with tempfile.TemporaryDirectory() as folder:
         book, recut = written(folder, 'book', full({})), written(folder, 'recut', full(CHANGES))
         svg, texts = drawn(book, recut)
-        assert texts.count('≠') == len(CHANGES) and any('7 of 65 sections differ' in t for t in texts)
+        assert texts.count('≠') == len(CHANGES) and any('8 of 65 sections differ' in t for t in texts)
         assert len(bars(svg)) == 64 + 65 - 3
-        for words in ('B: 9 rows, not 8', 'B: other bits, same figure', 'B: refused, A is not', 'B: missing', 'B: -420.50 mm', 'B: not in A',
+        for words in ('B: 9 rows, not 8', 'B: other bits, same figure', 'B: other side, same bits', 'B: refused, A is not', 'B: missing', 'B: -420.50 mm', 'B: not in A',
                       'refused 14: sum too large', 'refused 15: mill figure too large', 'no rows'):
             assert words in texts, words
         svg, texts = drawn(recut, recut, book)
         assert texts.count('≠') == len(CHANGES) and 'C: A is refused' in texts
         assert '≠' not in drawn(book, book)[1]
+        titles = [r.find(SVG + 'title').text for r in bars(svg)]
+        for words in ('4: 5 rows, 4069200000000000, not rounded, 201.00 mm', '41: 6 rows, C06A480000000000, rounded up, -210.25 mm',
+                      '52: 8 rows, 406AA00000000000, rounded down, 213.00 mm'):
+            assert 'section ' + words in titles, words
+
+
+def test_plot_without_sides():
+    with tempfile.TemporaryDirectory() as folder:
+        book = written(folder, 'book', full(CHANGES))
+        former = written(folder, 'former', without_sides(full(CHANGES)))
+        svg, texts = drawn(former, book)
+        assert '≠' not in texts and [t for t in texts if 'without sides' in t] == [t for t in texts if t.startswith('A  ')] != []
+        assert 'section 4: 5 rows, 4069200000000000, 201.00 mm' in [r.find(SVG + 'title').text for r in bars(svg)]
+        for names in ((former, former), (former,), (book, book)):
+            assert not any('without sides' in t for t in drawn(*names)[1])
 
 
 def test_plot_samples():

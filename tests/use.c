@@ -1,5 +1,5 @@
-/* A C program over the exported calls: the report of a file by way of girth_report, and again from read, add and line; then the file written
- * from its two columns, and what girth_write refuses. */
+/* A C program over the exported calls: the report of a file by way of girth_report, and again from read, add and line; sums of every side; then
+ * the file written from its two columns, and what girth_write refuses. */
 #include "girths.h"
 #include <inttypes.h>
 #include <stdio.h>
@@ -10,6 +10,46 @@ enum { MOST = 5460, LONGEST = 12 * MOST + 16 };
 
 static uint8_t file[LONGEST + 1], table[4096], work[4096], text[4096];
 static uint8_t columns[8 * (MOST + 1)], out[LONGEST + 99];
+
+/* What girth_sum and girth_line give of section key in the table one, of g records. Before a call each number that it gives is 9. */
+static uint8_t one[64];
+
+static int gives_sum(uint64_t g, uint32_t key, int64_t answer, uint64_t bits, int64_t side) {
+    uint64_t b = 9;
+    int64_t s = 9;
+    return girth_sum(one, sizeof one, g, key, &b, &s) == answer && b == bits && s == side;
+}
+
+static int gives_line(uint64_t g, uint32_t key, int64_t answer, uint64_t count, uint64_t bits, int64_t figure, int64_t side) {
+    uint64_t n = 9, b = 9;
+    int64_t f = 9, s = 9;
+    return girth_line(one, sizeof one, g, key, &n, &b, &f, &s) == answer && n == count && b == bits && f == figure && s == side;
+}
+
+/* Sections of three rows, and the same with the signs turned: ties that go down and up, one of them to a power of 2; a sum that is not
+ * rounded; one whose mill figure is refused; and a refused sum. A refused call gives zeros. */
+static int finishes(void) {
+    static const struct { uint64_t rows[3], bits; int64_t sum, line, figure, side; } sections[] = {
+        {{0x3FF0000000000000, 0x3CA0000000000000, 0}, 0x3FF0000000000000, 0, 0, 100, -1},
+        {{0x3FF0000000000001, 0x3CA0000000000000, 0}, 0x3FF0000000000002, 0, 0, 100, 1},
+        {{0x3FFFFFFFFFFFFFFF, 0x3CA0000000000000, 0}, 0x4000000000000000, 0, 0, 200, 1},
+        {{0x3FF0000000000000, 0x3FE0000000000000, 0}, 0x3FF8000000000000, 0, 0, 150, 0},
+        {{0x41747AE148000000, 0x3E10000000000000, 0}, 0x41747AE148000000, 0, -15, 0, -1},
+        {{0x7FEFFFFFFFFFFFFF, 0x7FEFFFFFFFFFFFFF, 0}, 0, -14, -14, 0, 0},
+    };
+    static const uint32_t keys[] = {7, 7, 7};
+    for (size_t i = 0; i < 2 * (sizeof sections / sizeof *sections); i++) {
+        int64_t sum = sections[i / 2].sum, line = sections[i / 2].line, sign = i % 2 ? -1 : 1;
+        uint64_t rows[3], minus = i % 2 ? (uint64_t)1 << 63 : 0, bits = sections[i / 2].bits ^ (sum == 0 ? minus : 0);
+        int64_t figure = sign * sections[i / 2].figure, side = sign * sections[i / 2].side;
+        for (int j = 0; j < 3; j++) rows[j] = sections[i / 2].rows[j] ^ minus;
+        if (girth_add(one, sizeof one, 0, (const uint8_t *)keys, sizeof keys, (const uint8_t *)rows, sizeof rows, work, sizeof work) != 1) return 0;
+        if (!gives_sum(1, 7, sum, bits, side) || !gives_sum(1, 8, -13, 0, 0) || !gives_sum(2, 7, -7, 0, 0)) return 0;
+        if (!(line == 0 ? gives_line(1, 7, 0, 3, bits, figure, side) : gives_line(1, 7, line, 0, 0, 0, 0))) return 0;
+        if (!gives_line(1, 8, -13, 0, 0, 0, 0) || !gives_line(2, 7, -7, 0, 0, 0, 0)) return 0;
+    }
+    return 1;
+}
 
 /* A call of girth_write on an output of which every byte is 0xA5. */
 static int64_t write_file(const uint8_t *keys, size_t keys_len, const uint8_t *values, size_t values_len, size_t room) {
@@ -91,16 +131,16 @@ int main(int argc, char **argv) {
     if (g < 0) return 5;
 
     char again[4096];
-    int at = sprintf(again, "section rows bits hundredths\n");
+    int at = sprintf(again, "section rows bits hundredths side\n");
     for (int64_t i = 0; i < g; i++) {
         uint32_t key;
         memcpy(&key, table + 64 * i, sizeof key);
         uint64_t count, bits, sum;
-        int64_t figure, same;
-        if (girth_line(table, sizeof table, (uint64_t)g, key, &count, &bits, &figure) != 0) return 6;
-        if (girth_sum(table, sizeof table, (uint64_t)g, key, &sum) != 0 || sum != bits) return 7;
+        int64_t figure, side, same;
+        if (girth_line(table, sizeof table, (uint64_t)g, key, &count, &bits, &figure, &side) != 0) return 6;
+        if (girth_sum(table, sizeof table, (uint64_t)g, key, &sum, &same) != 0 || sum != bits || same != side) return 7;
         if (girth_figure(table, sizeof table, (uint64_t)g, key, &same) != 0 || same != figure) return 8;
-        at += sprintf(again + at, "%" PRIu32 " %" PRIu64 " %016" PRIX64 " %" PRId64 "\n", key, count, bits, figure);
+        at += sprintf(again + at, "%" PRIu32 " %" PRIu64 " %016" PRIX64 " %" PRId64 " %" PRId64 "\n", key, count, bits, figure, side);
     }
     if (at != n || memcmp(again, text, (size_t)n) != 0) return 9;
 
@@ -110,6 +150,7 @@ int main(int argc, char **argv) {
     if (!refuses_wide()) return 11;
     if (!writes(columns, columns, MOST, LONGEST) || !writes(columns, columns, 0, sizeof out)) return 12;
     if (!rewrites(file + keys, file + values, (uint32_t)rows, n)) return 13;
+    if (!finishes()) return 14;
     fwrite(text, 1, (size_t)n, stdout);
     return 0;
 }

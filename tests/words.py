@@ -33,6 +33,7 @@ ONE = {
     "sum": "a section's sum: the call, its question, its field in a line, its entry in the bench book, a double or the answer that has it",
     "figure": "a section's mill figure: the call, its question, its field in a line, the case that carries it",
     "line": "a section's finished line: the call, its question, the case that carries it",
+    "side": "which side of the value that was rounded a number is on: the enum and its fields, Card 2's definition, the number written out and its clause",
     "write": "puts bytes into a lent buffer: a number's, or a patch file",
     "look_up": "the record of a section: the function, and the enum of what it finds",
     "address": "where a returned part stands",
@@ -66,6 +67,7 @@ ONE = {
     "is_finite": "neither infinite nor not a number: the function, and the claim",
     "negative": "the sign is a minus",
     "magnitude": "a size without its sign",
+    "unsigned": "a number or bits without a sign",
     "top": "document 01's top",
     "high": "what belongs to level t",
     "middle": "what belongs to level t - 1",
@@ -97,7 +99,7 @@ ONE = {
     "BenchFigure": "a figure of the bench book",
 }
 # parameters of two types
-TWO_TYPES = {"sum"}
+TWO_TYPES = {"sum", "side"}
 ONE |= {f"limb{i}": "the bound of a limb" for i in range(4)}
 ONE |= {f"of-{call}": "what is said of this call's contract" for call in ("keys", "values", "read", "key-start", "value-start", "write", "report", "girth-read", "girth-write", "girth-report", "girth-sum", "girth-figure", "girth-line")}
 

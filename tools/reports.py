@@ -4,12 +4,15 @@ import re
 import struct
 import sys
 
-HEAD = ('section', 'rows', 'bits', 'hundredths')
+HEAD = ('section', 'rows', 'bits', 'hundredths', 'side')
+HEADS = (HEAD, HEAD[:-1])  # a report of an earlier season may have no sides
+ROUNDING = {-1: 'rounded down', 0: 'not rounded', 1: 'rounded up'}
 FORMS = {
     'section': (re.compile(r'[0-9]{1,10}'), int),
     'rows': (re.compile(r'[0-9]{1,10}'), int),
     'bits': (re.compile(r'(?![7F]FF)[0-9A-F]{16}'), lambda w: int(w, 16)),  # an exponent field of all ones is no finite double
     'hundredths': (re.compile(r'-?[0-9]{1,10}'), int),
+    'side': (re.compile(r'-1|0|1'), int),
 }
 
 
@@ -24,8 +27,9 @@ class Refused(int):
 class Report:
     """A report: the sections with their fields by name, or the refusal of the whole file."""
 
-    def __init__(self, name, sections, refused=None):
+    def __init__(self, name, sections, names=(), refused=None):
         self.name, self.sections, self.refused = name, sections, refused
+        self.has_sides = 'side' in names
 
 
 def field(name, word):
@@ -40,8 +44,8 @@ def fields(names, line):
     words, found = line.split(' '), {}
     for i, name in enumerate(names):
         if words[i:i + 1] == ['refused']:
-            if len(words) != i + 2 or i < 2 or not words[i + 1].isdecimal():
-                raise Bad('`refused` and a number end a line')
+            if len(words) != i + 2 or name not in ('bits', 'hundredths') or not words[i + 1].isdecimal():
+                raise Bad('`refused` and a number end a line, in place of the sum or the mill figure')
             return found | {left: Refused(words[i + 1]) for left in names[i:]}
         if i >= len(words):
             raise Bad(f'the field {name} is missing')
@@ -57,9 +61,9 @@ def parse(name, text):
         raise Bad(f'{name} is not a report: it does not end with a line feed')
     whole = re.fullmatch(r'refused ([0-9]+)', lines[0])
     if whole and len(lines) == 1:
-        return Report(name, {}, Refused(whole[1]))
+        return Report(name, {}, refused=Refused(whole[1]))
     names = tuple(lines[0].split(' '))
-    if names != HEAD:
+    if names not in HEADS:
         raise Bad(f'{name} is not a report: its first line is neither "{" ".join(HEAD)}" nor a refusal')
     sections = {}
     for number, line in enumerate(lines[1:], 2):
@@ -70,7 +74,7 @@ def parse(name, text):
         if sections and found['section'] <= max(sections):
             raise Bad(f'{name}, line {number}: the sections do not rise')
         sections[found['section']] = found
-    return Report(name, sections)
+    return Report(name, sections, names)
 
 
 def load(name):
@@ -115,6 +119,12 @@ def place(bits):
     return -(bits & 2 ** 63 - 1) if bits >> 63 else bits
 
 
+def rounding(section):
+    """In words which way a section's sum was rounded; nothing where the section has no side."""
+    side = section.get('side')
+    return None if isinstance(side, Refused) else ROUNDING.get(side)
+
+
 def millimetres(hundredths):
     """A mill figure as millimetres, exactly."""
     whole, part = divmod(abs(hundredths), 100)
@@ -122,7 +132,7 @@ def millimetres(hundredths):
 
 
 def differing(a, b):
-    """The names of the fields in which two sections differ; None stands for a section that is missing."""
+    """The names of the fields in which two sections differ, of those that both have; None stands for a section that is missing."""
     if a is None or b is None:
         return [] if a is b else ['section']
-    return [name for name in a if (a[name], isinstance(a[name], Refused)) != (b[name], isinstance(b[name], Refused))]
+    return [name for name in a if name in b and (a[name], isinstance(a[name], Refused)) != (b[name], isinstance(b[name], Refused))]

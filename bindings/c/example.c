@@ -1,4 +1,4 @@
-/* Reads a patch file named on the command line, and prints each section's sum in millimetres.
+/* Reads a patch file named on the command line, and prints each section's sum in millimetres, and which way it was rounded.
  *
  * From the root of the repository:
  *
@@ -29,14 +29,14 @@ static int print_sections(uint64_t g) {
     for (uint64_t i = 0; i < g; i++) {
         uint32_t key = key_of(table + RECORD * i);
         uint64_t bits;
-        int64_t answer = girth_sum(table, sizeof table, g, key, &bits);
+        int64_t side, answer = girth_sum(table, sizeof table, g, key, &bits, &side);
         if (answer < 0) {
             printf("section %" PRIu32 ": refused %" PRId64 "\n", key, -answer);
             continue;
         }
         double sum;
         memcpy(&sum, &bits, sizeof sum);
-        printf("section %" PRIu32 ": %.17g mm\n", key, sum);
+        printf("section %" PRIu32 ": %.17g mm%s\n", key, sum, side < 0 ? ", rounded down" : side > 0 ? ", rounded up" : "");
     }
     return 0;
 }

@@ -30,14 +30,16 @@ int64_t girth_add(uint8_t *table, size_t table_len, uint64_t g, const uint8_t *k
 /* Merges a table of g2 records into one of g1: the first one's new group count, or -7, -11 or -12. */
 int64_t girth_merge(uint8_t *first, size_t first_len, uint64_t g1, const uint8_t *second, size_t second_len, uint64_t g2);
 
-/* The sum of a section, as the 64 bits of a double: 0, or -7, -13 or -14. */
-int64_t girth_sum(const uint8_t *table, size_t table_len, uint64_t g, uint32_t key, uint64_t *bits);
+/* The sum of a section, as the 64 bits of a double, and its side: -1, 0 or 1 as the double is below, equal to or above the kept value; a sum of
+ * side 0 was not rounded. The answer is 0, or -7, -13 or -14. */
+int64_t girth_sum(const uint8_t *table, size_t table_len, uint64_t g, uint32_t key, uint64_t *bits, int64_t *side);
 
 /* The mill figure of a section: 0, or -7, -13, -14 or -15. */
 int64_t girth_figure(const uint8_t *table, size_t table_len, uint64_t g, uint32_t key, int64_t *figure);
 
-/* The finished line of a section: 0, or -7, -13, -14 or -15. */
-int64_t girth_line(const uint8_t *table, size_t table_len, uint64_t g, uint32_t key, uint64_t *count, uint64_t *bits, int64_t *figure);
+/* The finished line of a section: its row count, its sum, its mill figure and its side. The answer is 0, or -7, -13, -14 or -15. */
+int64_t girth_line(const uint8_t *table, size_t table_len, uint64_t g, uint32_t key, uint64_t *count, uint64_t *bits, int64_t *figure,
+                   int64_t *side);
 
 /* The report of a patch file, at the front of out: the length of its text, at most 4,096 bytes, or -16 where out is shorter than the text. */
 int64_t girth_report(const uint8_t *file, size_t file_len, uint8_t *out, size_t out_len);

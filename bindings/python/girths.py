@@ -6,9 +6,9 @@
     >>> table = bytearray(64 * 64)
     >>> g = girths.add(table, 0, columns.keys, columns.values)
     >>> girths.sum(table, g, 1), girths.figure(table, g, 1)
-    (1.5, 150)
+    (Sum(sum=1.5, side=0), 150)
     >>> girths.line(table, g, 2)
-    Line(section=2, rows=1, sum=0.125, figure=13)
+    Line(section=2, rows=1, sum=0.125, figure=13, side=0)
     >>> girths.sum(table, g, 5)
     Traceback (most recent call last):
     girths.Refused: refused 13: the section has no row
@@ -31,7 +31,7 @@ import subprocess
 import tempfile
 from typing import NamedTuple
 
-__all__ = ['Columns', 'Line', 'NotBuilt', 'Refused', 'add', 'bits', 'figure', 'line', 'merge', 'read', 'report', 'sum', 'write']
+__all__ = ['Columns', 'Line', 'NotBuilt', 'Refused', 'Sum', 'add', 'bits', 'figure', 'line', 'merge', 'read', 'report', 'sum', 'write']
 
 ROOT = pathlib.Path(__file__).resolve().parents[2]
 LONGEST_FILE = 65536
@@ -77,12 +77,19 @@ class Columns(NamedTuple):
     values: memoryview
 
 
+class Sum(NamedTuple):
+    """A section's sum; its side is -1, 0 or 1 as it is below, equal to or above the kept value. A sum of side 0 was not rounded."""
+    sum: float
+    side: int
+
+
 class Line(NamedTuple):
-    """A finished section."""
+    """A finished section; its side is that of its sum."""
     section: int
     rows: int
     sum: float
     figure: int
+    side: int
 
 
 # ---- the library
@@ -125,9 +132,9 @@ _TYPES = {
     'girth_write': 3 * [_BYTES, _LENGTH],
     'girth_add': _TABLE + 3 * [_BYTES, _LENGTH],
     'girth_merge': _TABLE + _TABLE,
-    'girth_sum': _TABLE + [ctypes.c_uint32, _OUT],
+    'girth_sum': _TABLE + [ctypes.c_uint32, _OUT, _SIGNED_OUT],
     'girth_figure': _TABLE + [ctypes.c_uint32, _SIGNED_OUT],
-    'girth_line': _TABLE + [ctypes.c_uint32, _OUT, _OUT, _SIGNED_OUT],
+    'girth_line': _TABLE + [ctypes.c_uint32, _OUT, _OUT, _SIGNED_OUT, _SIGNED_OUT],
     'girth_report': 2 * [_BYTES, _LENGTH],
 }
 _loaded = None
@@ -273,11 +280,11 @@ def merge(first, g1, second, g2):
 
 
 def sum(table, g, key):
-    """A section's sum as a float, or refusals 7, 13 and 14."""
-    lent, out = _Lent('a table', table), ctypes.c_uint64()
+    """A section's sum as a float, with its side, or refusals 7, 13 and 14."""
+    lent, outs = _Lent('a table', table), (ctypes.c_uint64(), ctypes.c_int64())
     g, key = _whole('a group count', g, 64), _whole('a section', key, 32)
-    _answer(_library().girth_sum(*lent.words, g, key, ctypes.byref(out)))
-    return _double(out.value)
+    _answer(_library().girth_sum(*lent.words, g, key, *map(ctypes.byref, outs)))
+    return Sum(_double(outs[0].value), outs[1].value)
 
 
 def figure(table, g, key):
@@ -290,10 +297,10 @@ def figure(table, g, key):
 
 def line(table, g, key):
     """A section's finished line, or refusals 7 and 13 to 15."""
-    lent, outs = _Lent('a table', table), (ctypes.c_uint64(), ctypes.c_uint64(), ctypes.c_int64())
+    lent, outs = _Lent('a table', table), (ctypes.c_uint64(), ctypes.c_uint64(), ctypes.c_int64(), ctypes.c_int64())
     g, key = _whole('a group count', g, 64), _whole('a section', key, 32)
     _answer(_library().girth_line(*lent.words, g, key, *map(ctypes.byref, outs)))
-    return Line(key, outs[0].value, _double(outs[1].value), outs[2].value)
+    return Line(key, outs[0].value, _double(outs[1].value), outs[2].value, outs[3].value)
 
 
 def report(file):

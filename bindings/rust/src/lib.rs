@@ -22,7 +22,7 @@
 //! assert_eq!(g, 2);
 //!
 //! let line = girths::line(&table, g, 1)?;
-//! assert_eq!((line.count, f64::from_bits(line.bits), line.figure), (2, 1.5, 150));
+//! assert_eq!((line.count, f64::from_bits(line.bits), line.figure, line.side), (2, 1.5, 150, 0));
 //! assert_eq!(girths::sum(&table, g, 5).unwrap_err().number(), 13);
 //!
 //! // the same rows as two patches on two tables, merged
@@ -32,6 +32,11 @@
 //! let f = girths::add(&mut first, 0, &columns.keys[..4], &columns.values[..8], &mut work)?;
 //! assert_eq!(girths::merge(&mut first, f, &other, h)?, g);
 //! assert_eq!(first, table);
+//!
+//! // 1 + 2^-54 is no double: the nearest is 1, which is below it
+//! let values = [1f64, 2f64.powi(-54)].map(f64::to_le_bytes).concat();
+//! let g = girths::add(&mut table, 0, &[0; 8], &values, &mut work)?;
+//! assert_eq!(girths::sum(&table, g, 0)?, girths::Sum { bits: 1f64.to_bits(), side: -1 });
 //! # Ok::<(), girths::Refusal>(())
 //! ```
 
@@ -49,10 +54,10 @@ extern "C" {
         work: *mut u8, work_len: usize,
     ) -> i64;
     fn girth_merge(first: *mut u8, first_len: usize, g1: u64, second: *const u8, second_len: usize, g2: u64) -> i64;
-    fn girth_sum(table: *const u8, table_len: usize, g: u64, key: u32, bits: *mut u64) -> i64;
+    fn girth_sum(table: *const u8, table_len: usize, g: u64, key: u32, bits: *mut u64, side: *mut i64) -> i64;
     fn girth_figure(table: *const u8, table_len: usize, g: u64, key: u32, figure: *mut i64) -> i64;
     fn girth_line(
-        table: *const u8, table_len: usize, g: u64, key: u32, count: *mut u64, bits: *mut u64, figure: *mut i64,
+        table: *const u8, table_len: usize, g: u64, key: u32, count: *mut u64, bits: *mut u64, figure: *mut i64, side: *mut i64,
     ) -> i64;
     fn girth_report(file: *const u8, file_len: usize, out: *mut u8, out_len: usize) -> i64;
 }
@@ -107,6 +112,15 @@ pub struct Columns<'a> {
     pub values: &'a [u8],
 }
 
+/// A section's sum.
+#[derive(Debug, PartialEq, Clone, Copy)]
+pub struct Sum {
+    /// The 64 bits of the double.
+    pub bits: u64,
+    /// -1, 0 or 1 as the double is below, equal to or above the kept value. A sum of side 0 was not rounded.
+    pub side: i64,
+}
+
 /// A finished section.
 #[derive(Debug, PartialEq, Clone, Copy)]
 pub struct Line {
@@ -116,6 +130,8 @@ pub struct Line {
     pub bits: u64,
     /// Its mill figure.
     pub figure: i64,
+    /// The side of its sum, as in [`Sum`].
+    pub side: i64,
 }
 
 fn answer(r: i64) -> Result<u64, Refusal> {
@@ -183,11 +199,11 @@ pub fn merge(first: &mut [u8], g1: u64, second: &[u8], g2: u64) -> Result<u64, R
     groups(r, first.len())
 }
 
-/// The 64 bits of a section's sum, or refusals 7, 13 and 14.
-pub fn sum(table: &[u8], g: u64, key: u32) -> Result<u64, Refusal> {
-    let mut bits = u64::MAX;
-    let r = answer(unsafe { girth_sum(table.as_ptr(), table.len(), g, key, &mut bits) });
-    settled(r, bits, bits == 0)
+/// A section's sum and its side, or refusals 7, 13 and 14.
+pub fn sum(table: &[u8], g: u64, key: u32) -> Result<Sum, Refusal> {
+    let mut s = Sum { bits: u64::MAX, side: i64::MAX };
+    let r = answer(unsafe { girth_sum(table.as_ptr(), table.len(), g, key, &mut s.bits, &mut s.side) });
+    settled(r, s, s == Sum { bits: 0, side: 0 })
 }
 
 /// A section's mill figure, or refusals 7 and 13 to 15.
@@ -199,11 +215,11 @@ pub fn figure(table: &[u8], g: u64, key: u32) -> Result<i64, Refusal> {
 
 /// A section's finished line, or refusals 7 and 13 to 15.
 pub fn line(table: &[u8], g: u64, key: u32) -> Result<Line, Refusal> {
-    let mut l = Line { count: u64::MAX, bits: u64::MAX, figure: i64::MAX };
+    let mut l = Line { count: u64::MAX, bits: u64::MAX, figure: i64::MAX, side: i64::MAX };
     let r = answer(unsafe {
-        girth_line(table.as_ptr(), table.len(), g, key, &mut l.count, &mut l.bits, &mut l.figure)
+        girth_line(table.as_ptr(), table.len(), g, key, &mut l.count, &mut l.bits, &mut l.figure, &mut l.side)
     });
-    settled(r, l, l == Line { count: 0, bits: 0, figure: 0 })
+    settled(r, l, l == Line { count: 0, bits: 0, figure: 0, side: 0 })
 }
 
 /// Writes the report of a patch file to the front of an output, and gives its length, 4,096 bytes at most. Refusal 16 leaves the output untouched.

@@ -9,7 +9,7 @@ use Rattle.refusal.specs.Outcome.{Outcome, accepted, refused}
 use Rattle.level.specs.Carry.{carryOf, residueOf}
 use Rattle.record.specs.Section.{Section, find}
 use Rattle.table.specs.Combine.{added}
-use Rattle.finish.specs.Finish.{sumOf, figureOf}
+use Rattle.finish.specs.Finish.{RoundedSum, sumOf, figureOf}
 
 -- a figure of the bench book
 pub data BenchFigure : Type 0 where
@@ -38,8 +38,8 @@ unfoldable pub sectionAdded : List ℕ → Option Section
 sectionAdded bs = find 1 (added [] (map (λ (b : ℕ). record { key = 1; bits = b }) bs))
 
 -- the bits of an accepted sum
-abbrev pub sumBits : Outcome Float → Outcome ℕ
-sumBits (accepted x) = accepted (toBits binary64 x)
+abbrev pub sumBits : Outcome RoundedSum → Outcome ℕ
+sumBits (accepted x) = accepted (toBits binary64 (x .sum))
 sumBits (refused n) = refused n
 
 -- doubles added from left to right

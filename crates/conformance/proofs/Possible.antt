@@ -7,7 +7,8 @@ use lib.ListN.{length, replicate, length-replicate}
 use denote.Ref.{RefT, now}
 use Rattle.columns.specs.declared.Kind.the-variants.{Double}
 use Rattle.table.specs.Calls.{addOutcome, addLeaves, cleared, mergeOutcome, mergeLeaves}
-use Rattle.finish.specs.Finish.{sumOutcome, figureOutcome, lineOutcome}
+use Rattle.limbs.specs.Side.{sideNumber}
+use Rattle.finish.specs.Finish.{RoundedSum, sumOutcome, figureOutcome, lineOutcome}
 use Rattle.finish.specs.declared.FinishedLine.{FinishedLine}
 use Rattle.exports.specs.Calls.{returnsCount, returnsZero, writes, doubleBits}
 use Rattle.history.specs.Calls.{sum, figure, line, Call, add, merge, ask}
@@ -21,8 +22,12 @@ ref x = record { ptr = (0, 0); name = 0; now = x }
 
 one-possible : (s : State) (c : Call) → (x : Answer) × (s′ : State) × Called s c x s′
 one-possible s (ask i (sum k)) =
-    let b = s .tables i .buffer in let g = s .tables i .groups in
-    (_, _, by-girth-sum i ([], ([], tt)) (ref b, (g, (k, (ref 0, tt)))) (returnsZero (sumOutcome b g k)) (ref b, (g, (k, (ref (writes 0 doubleBits (sumOutcome b g k)), tt)))) (refl, refl) (refl, refl))
+    let b = s .tables i .buffer in let g = s .tables i .groups in let o = sumOutcome b g k in (
+      _,
+      _,
+      by-girth-sum i ([], ([], ([], tt))) (ref b, (g, (k, (ref 0, (ref (pos 0), tt))))) (returnsZero o)
+          (ref b, (g, (k, (ref (writes 0 (λ (x : RoundedSum). doubleBits (x .sum)) o), (ref (writes (pos 0) (λ (x : RoundedSum). sideNumber (x .side)) o), tt))))) (refl, refl) (refl, (refl, refl)),
+    )
 one-possible s (ask i (figure k)) =
     let b = s .tables i .buffer in let g = s .tables i .groups in
     (_, _, by-girth-figure i ([], ([], tt)) (ref b, (g, (k, (ref (pos 0), tt)))) (returnsZero (figureOutcome b g k)) (ref b, (g, (k, (ref (writes (pos 0) (λ (z : ℤ). z) (figureOutcome b g k)), tt)))) (refl, refl) (refl, refl))
@@ -30,8 +35,8 @@ one-possible s (ask i (line k)) =
     let b = s .tables i .buffer in let g = s .tables i .groups in let o = lineOutcome b g k in (
       _,
       _,
-      by-girth-line i ([], ([], ([], ([], tt)))) (ref b, (g, (k, (ref 0, (ref 0, (ref (pos 0), tt)))))) (returnsZero o)
-          (ref b, (g, (k, (ref (writes 0 (λ (l : FinishedLine). l .count) o), (ref (writes 0 (λ (l : FinishedLine). doubleBits (l .sum)) o), (ref (writes (pos 0) (λ (l : FinishedLine). l .figure) o), tt)))))) (refl, refl) (refl, (refl, (refl, refl))),
+      by-girth-line i ([], ([], ([], ([], ([], tt))))) (ref b, (g, (k, (ref 0, (ref 0, (ref (pos 0), (ref (pos 0), tt))))))) (returnsZero o)
+          (ref b, (g, (k, (ref (writes 0 (λ (l : FinishedLine). l .count) o), (ref (writes 0 (λ (l : FinishedLine). doubleBits (l .sum)) o), (ref (writes (pos 0) (λ (l : FinishedLine). l .figure) o), (ref (writes (pos 0) (λ (l : FinishedLine). sideNumber (l .side)) o), tt))))))) (refl, refl) (refl, (refl, (refl, (refl, refl)))),
     )
 one-possible s (merge i j d) =
     let b = s .tables i .buffer in let g = s .tables i .groups in let b′ = s .tables j .buffer in let g′ = s .tables j .groups in

@@ -18,7 +18,9 @@ use Rattle.record.specs.Sound.{sound}
 use Rattle.record.specs.Section.{Section, kept, sections, find}
 use Rattle.record.proofs.Found.{find-key}
 use Rattle.finish.specs.declared.FinishedLine.{FinishedLine}
-use Rattle.finish.specs.Finish.{sumFor, figureFor, lineFor, sumGrounds, figureGrounds, finishedBy, finishing, sumOutcome, figureOutcome, lineOutcome}
+use Rattle.limbs.specs.Side.{sideNumber, sideSaid}
+use Rattle.limbs.proofs.Sides.{side-back}
+use Rattle.finish.specs.Finish.{RoundedSum, sumFor, figureFor, lineFor, sumGrounds, figureGrounds, finishedBy, finishing, sumOutcome, figureOutcome, lineOutcome}
 use Rattle.finish.proofs.Outcomes.{section-given, finished-not, sum-given, line-given, double-back}
 use Rattle.exports.specs.Calls.{returnsCount, returnsZero, writes, doubleBits}
 use Rattle.history.specs.Calls.{Call}
@@ -70,15 +72,20 @@ finishing-not-0 gs v h s g k = by (sound s g)
 
 -- ---- what is written out, read back
 module _ (s : List ℕ) (g k : ℕ) where
-  sum-back : (x : Float) → sumOutcome s g k ≡ accepted x → ofBits binary64 (doubleBits x) ≡ x
+  sum-back : (x : RoundedSum) → sumOutcome s g k ≡ accepted x → ofBits binary64 (doubleBits (x .sum)) ≡ x .sum
   sum-back x e =
       let t = section-given sumGrounds sumFor s g k x (sym e) in
-      subst (λ (y : Float). ofBits binary64 (doubleBits y) ≡ y) (sum-given (t .0) x (t .1) .is) (double-back (kept (t .0)))
+      subst (λ (y : Float). ofBits binary64 (doubleBits y) ≡ y) (ap (λ (y : RoundedSum). y .sum) (sum-given (t .0) x (t .1) .is)) (double-back (kept (t .0)))
 
-  sum-read : {z : ℤ} {b : ℕ} → z ≡ returnsZero (sumOutcome s g k) → b ≡ writes 0 doubleBits (sumOutcome s g k) → valuesSaid (ofBits binary64 b) z ≡ sumOutcome s g k
-  sum-read q w =
+  sum-read : {z d : ℤ} {b : ℕ} → z ≡ returnsZero (sumOutcome s g k) → b ≡ writes 0 (λ (x : RoundedSum). doubleBits (x .sum)) (sumOutcome s g k)
+      → d ≡ writes (pos 0) (λ (x : RoundedSum). sideNumber (x .side)) (sumOutcome s g k)
+      → valuesSaid (record { sum = ofBits binary64 b; side = sideSaid d }) z ≡ sumOutcome s g k
+  sum-read q wb wd =
       given-out (sumOutcome s g k) _ (finishing-not-0 sumGrounds sumFor (λ t. refl) s g k)
-      (λ x e. ap (ofBits binary64) (w ∙ ap (writes 0 doubleBits) e) ∙ sum-back x e) q
+      (λ x e.
+      let b = ap (ofBits binary64) (wb ∙ ap (writes 0 (λ (y : RoundedSum). doubleBits (y .sum))) e) ∙ sum-back x e in
+      let d = ap sideSaid (wd ∙ ap (writes (pos 0) (λ (y : RoundedSum). sideNumber (y .side))) e) ∙ side-back (x .side) in
+      λ i. record { sum = b i; side = d i }) q
 
   figure-read : {z y : ℤ} → z ≡ returnsZero (figureOutcome s g k) → y ≡ writes (pos 0) (λ (f : ℤ). f) (figureOutcome s g k) → valuesSaid y z ≡ figureOutcome s g k
   figure-read q w =
@@ -93,17 +100,19 @@ module _ (s : List ℕ) (g k : ℕ) where
         subst (λ (y : Float). ofBits binary64 (doubleBits y) ≡ y) (ap (λ (x : FinishedLine). x .sum) is) (double-back (kept (t .0))),
       )
 
-  line-read : {z f : ℤ} {n b : ℕ} → z ≡ returnsZero (lineOutcome s g k) → n ≡ writes 0 (λ (l : FinishedLine). l .count) (lineOutcome s g k)
+  line-read : {z f d : ℤ} {n b : ℕ} → z ≡ returnsZero (lineOutcome s g k) → n ≡ writes 0 (λ (l : FinishedLine). l .count) (lineOutcome s g k)
       → b ≡ writes 0 (λ (l : FinishedLine). doubleBits (l .sum)) (lineOutcome s g k) → f ≡ writes (pos 0) (λ (l : FinishedLine). l .figure) (lineOutcome s g k)
-      → valuesSaid (record { key = k; count = n; sum = ofBits binary64 b; figure = f }) z ≡ lineOutcome s g k
-  line-read q wn wb wf =
+      → d ≡ writes (pos 0) (λ (l : FinishedLine). sideNumber (l .side)) (lineOutcome s g k)
+      → valuesSaid (record { key = k; count = n; sum = ofBits binary64 b; figure = f; side = sideSaid d }) z ≡ lineOutcome s g k
+  line-read q wn wb wf wd =
       given-out (lineOutcome s g k) _ (finishing-not-0 figureGrounds lineFor (λ t. refl) s g k)
       (λ l e.
       let p = line-back l e in
       let n = wn ∙ ap (writes 0 (λ (l : FinishedLine). l .count)) e in
       let b = ap (ofBits binary64) (wb ∙ ap (writes 0 (λ (l : FinishedLine). doubleBits (l .sum))) e) ∙ p .1 in
       let f = wf ∙ ap (writes (pos 0) (λ (l : FinishedLine). l .figure)) e in
-      λ i. record { key = p .0 i; count = n i; sum = b i; figure = f i }) q
+      let d = ap sideSaid (wd ∙ ap (writes (pos 0) (λ (l : FinishedLine). sideNumber (l .side))) e) ∙ side-back (l .side) in
+      λ i. record { key = p .0 i; count = n i; sum = b i; figure = f i; side = d i }) q
 
 pub steps : (s : State) (c : Call) (x : Answer) (s′ : State) → Called s c x s′ → (answer s c ≡ x) × (step s c ≡ s′)
 unfolding answer step askTable
@@ -128,6 +137,6 @@ steps s c x s′ (by-girth-merge i j apart κs a z e p q l) =
 steps s c x s′ (by-sum i κs a z e p l) = (rw (p .0, p .1) (ap sumIs (sym l)), refl)
 steps s c x s′ (by-figure i κs a z e p l) = (rw (p .0, p .1) (ap figureIs (sym l)), refl)
 steps s c x s′ (by-line i κs a z e p l) = (rw (p .0, p .1) (ap lineIs (sym l)), refl)
-steps s c x s′ (by-girth-sum i κs a z e p l) = (rw (p .0, p .1) (ap sumIs (sym (sum-read _ _ _ (l .0) (l .1)))), refl)
+steps s c x s′ (by-girth-sum i κs a z e p l) = (rw (p .0, p .1) (ap sumIs (sym (sum-read _ _ _ (l .0) (l .1 .0) (l .1 .1)))), refl)
 steps s c x s′ (by-girth-figure i κs a z e p l) = (rw (p .0, p .1) (ap figureIs (sym (figure-read _ _ _ (l .0) (l .1)))), refl)
-steps s c x s′ (by-girth-line i κs a z e p l) = (rw (p .0, p .1) (ap lineIs (sym (line-read _ _ _ (l .0) (l .1 .0) (l .1 .1 .0) (l .1 .1 .1)))), refl)
+steps s c x s′ (by-girth-line i κs a z e p l) = (rw (p .0, p .1) (ap lineIs (sym (line-read _ _ _ (l .0) (l .1 .0) (l .1 .1 .0) (l .1 .1 .1 .0) (l .1 .1 .1 .1)))), refl)

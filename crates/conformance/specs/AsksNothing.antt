@@ -59,8 +59,8 @@ pub record AsksNothing : Type 1 where
   pub of-girth-read : (κs : Lfts 3) (a : Dens κs girthReadKinds.ps) → girthReadReads.Asked κs a
   pub of-girth-add : (κs : Lfts 4) (a : Dens κs girthAddKinds.ps) → girthAddReads.Asked κs a
   pub of-girth-merge : (κs : Lfts 2) (a : Dens κs girthMergeKinds.ps) → girthMergeReads.Asked κs a
-  pub of-girth-sum : (κs : Lfts 2) (a : Dens κs girthSumKinds.ps) → girthSumReads.Asked κs a
+  pub of-girth-sum : (κs : Lfts 3) (a : Dens κs girthSumKinds.ps) → girthSumReads.Asked κs a
   pub of-girth-figure : (κs : Lfts 2) (a : Dens κs girthFigureKinds.ps) → girthFigureReads.Asked κs a
-  pub of-girth-line : (κs : Lfts 4) (a : Dens κs girthLineKinds.ps) → girthLineReads.Asked κs a
+  pub of-girth-line : (κs : Lfts 5) (a : Dens κs girthLineKinds.ps) → girthLineReads.Asked κs a
   pub of-girth-write : (κs : Lfts 3) (a : Dens κs girthWriteKinds.ps) → girthWriteReads.Asked κs a
   pub of-girth-report : (κs : Lfts 2) (a : Dens κs girthReportKinds.ps) → girthReportReads.Asked κs a

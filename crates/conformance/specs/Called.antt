@@ -14,6 +14,7 @@ use borrow.Fn.Kinds.{Dens, endedOf, resT}
 use denote.Triple.Clauses.{AtExit}
 use denote.Ref.{now}
 use Rattle.refusal.specs.Outcome.{Outcome, accepted, refused}
+use Rattle.limbs.specs.Side.{sideSaid}
 use Rattle.columns.specs.declared.Kind.the-variants.{Double}
 use Rattle.table.specs.Answer.{tableAnswer}
 use Rattle.finish.specs.Answer.{sumAnswer, figureAnswer, lineAnswer}
@@ -81,12 +82,12 @@ pub data Called (s : State) : Call → Answer → State → Type 1 where
       → Lent (s .tables i) (now (a .0)) (a .1 .0) → figureReads.Learnt κs a z e → Called s (ask i (figure (a .1 .1 .0))) (figureIs (figureAnswer z)) s
   by-line : (i : ℕ) (κs : Lfts 1) (a : Dens κs lineKinds.ps) (z : resT lineKinds.r κs .Denot) (e : AtExit (endedOf 1 lineKinds.ps lineKinds.r) κs)
       → Lent (s .tables i) (now (a .0)) (a .1 .0) → lineReads.Learnt κs a z e → Called s (ask i (line (a .1 .1 .0))) (lineIs (lineAnswer z)) s
-  by-girth-sum : (i : ℕ) (κs : Lfts 2) (a : Dens κs girthSumKinds.ps) (z : resT girthSumKinds.r κs .Denot) (e : AtExit (endedOf 2 girthSumKinds.ps girthSumKinds.r) κs)
+  by-girth-sum : (i : ℕ) (κs : Lfts 3) (a : Dens κs girthSumKinds.ps) (z : resT girthSumKinds.r κs .Denot) (e : AtExit (endedOf 3 girthSumKinds.ps girthSumKinds.r) κs)
       → Lent (s .tables i) (now (a .0)) (a .1 .0) → girthSumReads.Learnt κs a z e
-      → Called s (ask i (sum (a .1 .1 .0))) (sumIs (valuesSaid (ofBits binary64 (now (e .1 .1 .1 .0))) z)) s
+      → Called s (ask i (sum (a .1 .1 .0))) (sumIs (valuesSaid (record { sum = ofBits binary64 (now (e .1 .1 .1 .0)); side = sideSaid (now (e .1 .1 .1 .1 .0)) }) z)) s
   by-girth-figure : (i : ℕ) (κs : Lfts 2) (a : Dens κs girthFigureKinds.ps) (z : resT girthFigureKinds.r κs .Denot) (e : AtExit (endedOf 2 girthFigureKinds.ps girthFigureKinds.r) κs)
       → Lent (s .tables i) (now (a .0)) (a .1 .0) → girthFigureReads.Learnt κs a z e
       → Called s (ask i (figure (a .1 .1 .0))) (figureIs (valuesSaid (now (e .1 .1 .1 .0)) z)) s
-  by-girth-line : (i : ℕ) (κs : Lfts 4) (a : Dens κs girthLineKinds.ps) (z : resT girthLineKinds.r κs .Denot) (e : AtExit (endedOf 4 girthLineKinds.ps girthLineKinds.r) κs)
+  by-girth-line : (i : ℕ) (κs : Lfts 5) (a : Dens κs girthLineKinds.ps) (z : resT girthLineKinds.r κs .Denot) (e : AtExit (endedOf 5 girthLineKinds.ps girthLineKinds.r) κs)
       → Lent (s .tables i) (now (a .0)) (a .1 .0) → girthLineReads.Learnt κs a z e
-      → Called s (ask i (line (a .1 .1 .0))) (lineIs (valuesSaid (record { key = a .1 .1 .0; count = now (e .1 .1 .1 .0); sum = ofBits binary64 (now (e .1 .1 .1 .1 .0)); figure = now (e .1 .1 .1 .1 .1 .0) }) z)) s
+      → Called s (ask i (line (a .1 .1 .0))) (lineIs (valuesSaid (record { key = a .1 .1 .0; count = now (e .1 .1 .1 .0); sum = ofBits binary64 (now (e .1 .1 .1 .1 .0)); figure = now (e .1 .1 .1 .1 .1 .0); side = sideSaid (now (e .1 .1 .1 .1 .1 .1 .0)) }) z)) s

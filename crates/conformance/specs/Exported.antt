@@ -6,7 +6,8 @@ use borrow.Fn.Kinds.{Dens, endedOf, resT}
 use denote.Triple.Clauses.{AtExit}
 use denote.Ref.{now}
 use Rattle.finish.specs.declared.FinishedLine.{FinishedLine}
-use Rattle.finish.specs.Finish.{sumOutcome, figureOutcome, lineOutcome}
+use Rattle.limbs.specs.Side.{sideNumber}
+use Rattle.finish.specs.Finish.{RoundedSum, sumOutcome, figureOutcome, lineOutcome}
 use Rattle.exports.specs.Calls.{returnsZero, writes, doubleBits}
 use Rattle.exports.proofs.girth_sum.Reads as girthSumReads
 use Rattle.exports.proofs.girth_sum.Kinds as girthSumKinds
@@ -17,14 +18,16 @@ use Rattle.exports.proofs.girth_line.Kinds as girthLineKinds
 
 -- a is the table, its group count and the section number, and after them what is written, which e has at the end
 pub record Exported : Type 1 where
-  pub of-girth-sum : (κs : Lfts 2) (a : Dens κs girthSumKinds.ps) (z : resT girthSumKinds.r κs .Denot) (e : AtExit (endedOf 2 girthSumKinds.ps girthSumKinds.r) κs) → girthSumReads.Learnt κs a z e
+  pub of-girth-sum : (κs : Lfts 3) (a : Dens κs girthSumKinds.ps) (z : resT girthSumKinds.r κs .Denot) (e : AtExit (endedOf 3 girthSumKinds.ps girthSumKinds.r) κs) → girthSumReads.Learnt κs a z e
       → let o = sumOutcome (now (a .0)) (a .1 .0) (a .1 .1 .0) in
-      (z ≡ returnsZero o) × (now (e .1 .1 .1 .0) ≡ writes 0 doubleBits o)
+      (z ≡ returnsZero o) × (now (e .1 .1 .1 .0) ≡ writes 0 (λ (x : RoundedSum). doubleBits (x .sum)) o)
+      × (now (e .1 .1 .1 .1 .0) ≡ writes (pos 0) (λ (x : RoundedSum). sideNumber (x .side)) o)
   pub of-girth-figure : (κs : Lfts 2) (a : Dens κs girthFigureKinds.ps) (z : resT girthFigureKinds.r κs .Denot) (e : AtExit (endedOf 2 girthFigureKinds.ps girthFigureKinds.r) κs) → girthFigureReads.Learnt κs a z e
       → let o = figureOutcome (now (a .0)) (a .1 .0) (a .1 .1 .0) in
       (z ≡ returnsZero o) × (now (e .1 .1 .1 .0) ≡ writes (pos 0) (λ (f : ℤ). f) o)
-  pub of-girth-line : (κs : Lfts 4) (a : Dens κs girthLineKinds.ps) (z : resT girthLineKinds.r κs .Denot) (e : AtExit (endedOf 4 girthLineKinds.ps girthLineKinds.r) κs) → girthLineReads.Learnt κs a z e
+  pub of-girth-line : (κs : Lfts 5) (a : Dens κs girthLineKinds.ps) (z : resT girthLineKinds.r κs .Denot) (e : AtExit (endedOf 5 girthLineKinds.ps girthLineKinds.r) κs) → girthLineReads.Learnt κs a z e
       → let o = lineOutcome (now (a .0)) (a .1 .0) (a .1 .1 .0) in
       (z ≡ returnsZero o) × (now (e .1 .1 .1 .0) ≡ writes 0 (λ (l : FinishedLine). l .count) o)
       × (now (e .1 .1 .1 .1 .0) ≡ writes 0 (λ (l : FinishedLine). doubleBits (l .sum)) o)
       × (now (e .1 .1 .1 .1 .1 .0) ≡ writes (pos 0) (λ (l : FinishedLine). l .figure) o)
+      × (now (e .1 .1 .1 .1 .1 .1 .0) ≡ writes (pos 0) (λ (l : FinishedLine). sideNumber (l .side)) o)

@@ -17,6 +17,7 @@ ghost use Rattle.patch.specs.Serializer.{writeOutcome, writeLeaves};
 ghost use Rattle.record.specs.Layout.{mostGroups};
 ghost use Rattle.table.specs.Calls.{addOutcome, addLeaves, cleared, mergeOutcome, mergeLeaves};
 ghost use Rattle.table.specs.Answer.{tableAnswer};
+ghost use Rattle.limbs.specs.Side.{sideNumber};
 ghost use Rattle.finish.specs.Finish.{sumOutcome, figureOutcome, lineOutcome};
 ghost use Rattle.report.specs.Text.{reportText};
 ghost use Rattle.report.specs.Answer.{printOutcome, printLeaves};
@@ -24,6 +25,7 @@ ghost use Rattle.exports.specs.Calls.{returnsCount, returnsZero, writes,
 use finish::FigureAnswer;
 use finish::LineAnswer;
 use finish::SectionSum;
+use limbs::Side;
 use output::OutputAnswer;
 use patch::Reading;
 use refusal::Refusal;
@@ -89,16 +91,30 @@ pub extern "C" fn girth_merge(first: &mut [u8], g1: u64, second: &[u8], g2: u64)
     groups_or_minus(merge::merge(first, g1 as usize, second, g2 as usize))
 }
 
-// The sum of a section, as 64 bits.
+// A side as -1, 0 or 1.
+fn side_number(side: Side) -> i64
+    ensures { λ r. ⌜ r ≡ sideNumber side ⌝ }
+{
+    match side {
+        Side::Less => -1,
+        Side::Equal => 0,
+        Side::Greater => 1,
+    }
+}
+
+// The sum of a section, as 64 bits, and its side of the kept value.
 #[no_mangle]
-pub extern "C" fn girth_sum(table: &[u8], g: u64, key: u32, bits: &mut u64) -> i64
+pub extern "C" fn girth_sum(table: &[u8], g: u64, key: u32, bits: &mut u64, side: &mut i64) -> i64
     ensures answer { λ r. ⌜ r ≡ returnsZero (sumOutcome (now (table .entry)) g key) ⌝ }
-    ensures bits { λ _. ⌜ now (bits .exit) ≡ writes 0 doubleBits (sumOutcome (now (table .entry)) g key) ⌝ }
+    ensures bits { λ _. ⌜ now (bits .exit) ≡ writes 0 (λ x. doubleBits (x .sum)) (sumOutcome (now (table .entry)) g key) ⌝ }
+    ensures side { λ _. ⌜ now (side .exit) ≡ writes (pos 0) (λ x. sideNumber (x .side)) (sumOutcome (now (table .entry)) g key) ⌝ }
 {
     *bits = 0;
+    *side = 0;
     match finish::sum(table, g as usize, key) {
-        SectionSum::Finite(x) => {
+        SectionSum::Finite(x, d) => {
             *bits = f64::to_bits(x);
+            *side = side_number(d);
             0
         }
         SectionSum::Absent => minus(Refusal::SectionAbsent),
@@ -123,7 +139,7 @@ pub extern "C" fn girth_figure(table: &[u8], g: u64, key: u32, figure: &mut i64)
     }
 }
 
-// The finished line of a section: row count, sum as 64 bits, mill figure.
+// The finished line of a section: row count, sum as 64 bits, mill figure, the sum's side of the kept value.
 #[no_mangle]
 pub extern "C" fn girth_line(
     table: &[u8],
@@ -132,20 +148,25 @@ pub extern "C" fn girth_line(
     count: &mut u64,
     bits: &mut u64,
     figure: &mut i64,
+    side: &mut i64,
 ) -> i64
     ensures answer { λ r. ⌜ r ≡ returnsZero (lineOutcome (now (table .entry)) g key) ⌝ }
     ensures count { λ _. ⌜ now (count .exit) ≡ writes 0 (λ l. l .count) (lineOutcome (now (table .entry)) g key) ⌝ }
     ensures bits { λ _. ⌜ now (bits .exit) ≡ writes 0 (λ l. doubleBits (l .sum)) (lineOutcome (now (table .entry)) g key) ⌝ }
     ensures figure { λ _. ⌜ now (figure .exit) ≡ writes (pos 0) (λ l. l .figure) (lineOutcome (now (table .entry)) g key) ⌝ }
+    ensures side { λ _. ⌜ now (side .exit) ≡ writes (pos 0) (λ l. sideNumber (l .side)) (lineOutcome (now (table .entry)) g key) ⌝ }
 {
     *count = 0;
     *bits = 0;
     *figure = 0;
+    *side = 0;
     match finish::line(table, g as usize, key) {
         LineAnswer::Line(l) => {
             *count = l.count as u64;
             *bits = f64::to_bits(l.sum);
             *figure = l.figure as i64;
+            let d = l.side;
+            *side = side_number(d);
             0
         }
         LineAnswer::Refused(r) => minus(r),

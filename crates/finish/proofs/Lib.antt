@@ -3,6 +3,7 @@ pub mod Whole
 pub mod Limit
 pub mod Sums
 pub mod Nearest
+pub mod Sides
 pub mod Hundredths
 pub mod Fraction
 pub mod Halves

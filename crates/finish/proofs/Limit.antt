@@ -3,7 +3,7 @@
 use mathlib.Core.Path.{_≡_, refl, sym, ap, _∙_}
 use mathlib.Core.Logic.{_⊎_, inl, inr, ⊎-elim}
 use mathlib.Core.Bool.{Bool, true, false}
-use Prim.Native.Nat.{ℕ, _+_, _-_, _*_, _^_, _≤_, _<_}
+use Prim.Native.Nat.{ℕ, _+_, _-_, _^_, _≤_, _<_}
 use native.Mathlib.Nat.{le-trans, le-of-eq, eq-or-lt-of-le, lt-of-lt-of-le, lt-of-not-le, not-le-of-lt, le-of-suc-le-suc, mul-le-mul-right, lt-irrefl}
 use native.Mathlib.Omega.{arith}
 use lib.Dec.{T, lit≤}
@@ -13,7 +13,7 @@ use lib.Ieee.Digits.{size-lt, size-le}
 use lib.Ieee.Exact.{HasValue}
 use lib.Ieee.Scale.{finite}
 use lib.Ieee.Nearest.{closest, closest-mono}
-use Rattle.limbs.specs.Packed.{droppedDigits, significandOf, packed, infinite, signBit}
+use Rattle.limbs.specs.Packed.{droppedDigits, significandOf, roundedUnits, packed, infinite, signBit}
 use Rattle.integers.proofs.Naturals.{le-or-lt}
 use Rattle.limbs.proofs.Nearest.{closest-odd}
 use Rattle.limbs.proofs.Packed.{significand-le, significand-ge, packed-bits, packed-inf, packed-finite}
@@ -60,7 +60,7 @@ limit-finite n h = ⊎-elim (λ e. at e) (λ g. before (significand-le n) g) (eq
 pub limit-inf : (s : Bool) (n : ℕ) → limit ≤ n → round binary64 s n (2 ^ 1074) ≡ inf s
 limit-inf s n h = packed-inf s n (limit-infinite n h)
 
-inf-bits : (t : Bool) → toBits binary64 (inf t) ≡ signBit t + infinite
+pub inf-bits : (t : Bool) → toBits binary64 (inf t) ≡ signBit t + infinite
 unfolding toBits
 inf-bits t = refl
 
@@ -77,7 +77,7 @@ inf-limit s t n e = ⊎-elim (λ h. h) (λ h. absurd (no h)) (le-or-lt limit n)
     no h = let f = limit-finite n h in no-inf s t (packed n) f (sym (packed-bits s n f) ∙ ap (λ (x : Float). toBits binary64 x) e ∙ inf-bits t)
 
 -- below it the rounded value is finite, and a whole number of units
-pub limit-value : (s : Bool) (n : ℕ) → n < limit → HasValue (round binary64 s n (2 ^ 1074)) s (significandOf n * 2 ^ droppedDigits n) (2 ^ 1074)
+pub limit-value : (s : Bool) (n : ℕ) → n < limit → HasValue (round binary64 s n (2 ^ 1074)) s (roundedUnits n) (2 ^ 1074)
 limit-value s n h = packed-finite s n (limit-finite n h)
 
 has-value : (x : Float) (s : Bool) (a c : ℕ) → HasValue x s a c → T (finite x)
@@ -86,4 +86,4 @@ has-value (inf t) s a c h = h
 has-value (fin t m e) s a c h = tt
 
 pub limit-number : (s : Bool) (n : ℕ) → n < limit → T (finite (round binary64 s n (2 ^ 1074)))
-limit-number s n h = has-value (round binary64 s n (2 ^ 1074)) s (significandOf n * 2 ^ droppedDigits n) (2 ^ 1074) (limit-value s n h)
+limit-number s n h = has-value (round binary64 s n (2 ^ 1074)) s (roundedUnits n) (2 ^ 1074) (limit-value s n h)

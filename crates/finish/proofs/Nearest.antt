@@ -26,7 +26,8 @@ use Rattle.level.proofs.Double.{significand-lt}
 use Rattle.level.proofs.Binary64.{finite-binary64, value-binary64}
 use Rattle.finish.specs.Sum.{limit, nearestDouble, tooLarge, NearestFinite}
 use Rattle.limbs.specs.Nearest.{isOdd, nearestBy}
-use Rattle.limbs.specs.Packed.{droppedDigits, significandOf, signBit}
+use Rattle.finish.specs.Side.{doubleValue}
+use Rattle.limbs.specs.Packed.{droppedDigits, significandOf, roundedUnits, signBit}
 use Rattle.integers.proofs.Naturals.{le-or-lt, pow-sum}
 use Rattle.limbs.proofs.Nearest.{Halfway, nearest-near, nearest-even}
 use Rattle.limbs.proofs.Packed.{reaches, packed-bits}
@@ -62,7 +63,7 @@ nearest-best n u x h =
 -- ---- among all m × 2^j with m of at most 53 digits
 
 -- a number of fewer digits than n keeps is farther away than 2^52 of the units that n is rounded to
-fewer-zeros : (n m j : ℕ) → m < 2 ^ 53 → j < droppedDigits n → absDiff n (significandOf n * 2 ^ droppedDigits n) < absDiff n (m * 2 ^ j)
+fewer-zeros : (n m j : ℕ) → m < 2 ^ 53 → j < droppedDigits n → absDiff n (roundedUnits n) < absDiff n (m * 2 ^ j)
 fewer-zeros n m j h l =
     let d = droppedDigits n in
     let w : 2 ^ 52 * 2 ^ d ≤ n = le-div-iff-mul-le (pow-pos d) .0 (reaches n (omega arith)) in
@@ -83,18 +84,18 @@ module _ (n m j : ℕ) (l : droppedDigits n ≤ j) where
   more : Best n (2 ^ droppedDigits n) (m * 2 ^ (j - droppedDigits n)) (significandOf n)
   more = nearest-best n (2 ^ droppedDigits n) (m * 2 ^ (j - droppedDigits n)) (pow-pos (droppedDigits n))
 
-digits-near : (n m j : ℕ) → m < 2 ^ 53 → absDiff n (significandOf n * 2 ^ droppedDigits n) ≤ absDiff n (m * 2 ^ j)
+digits-near : (n m j : ℕ) → m < 2 ^ 53 → absDiff n (roundedUnits n) ≤ absDiff n (m * 2 ^ j)
 digits-near n m j h =
     ⊎-elim (λ l. le-trans (more n m j l .0) (le-of-eq (ap (absDiff n) (same-unit n m j l)))) (λ l. let g = fewer-zeros n m j h l in omega arith) (le-or-lt (droppedDigits n) j)
 
-digits-even : (n m j : ℕ) → m < 2 ^ 53 → (m * 2 ^ j ≡ significandOf n * 2 ^ droppedDigits n → ⊥) → absDiff n (significandOf n * 2 ^ droppedDigits n) ≡ absDiff n (m * 2 ^ j) → significandOf n % 2 ≡ 0
+digits-even : (n m j : ℕ) → m < 2 ^ 53 → (m * 2 ^ j ≡ roundedUnits n → ⊥) → absDiff n (roundedUnits n) ≡ absDiff n (m * 2 ^ j) → significandOf n % 2 ≡ 0
 digits-even n m j h d e =
     ⊎-elim
     (λ l. more n m j l .1 (λ g. d (sym (same-unit n m j l) ∙ ap (λ (x : ℕ). x * 2 ^ droppedDigits n) g)) (e ∙ ap (absDiff n) (sym (same-unit n m j l))))
     (λ l. absurd (farther (fewer-zeros n m j h l)))
     (le-or-lt (droppedDigits n) j)
   where
-    farther : absDiff n (significandOf n * 2 ^ droppedDigits n) < absDiff n (m * 2 ^ j) → ⊥
+    farther : absDiff n (roundedUnits n) < absDiff n (m * 2 ^ j) → ⊥
     farther g = omega arith
 
 -- ---- with signs
@@ -114,12 +115,9 @@ by-sign false true = inr refl
 by-sign false false = inl refl
 
 module _ (s : Bool) (n : ℕ) where
-  abbrev size-of : ℕ
-  size-of = significandOf n * 2 ^ droppedDigits n
-
-  near-signed : (t : Bool) (m j : ℕ) → m < 2 ^ 53 → natAbs (signed s n -ℤ signed s size-of) ≤ natAbs (signed s n -ℤ signed t (m * 2 ^ j))
+  near-signed : (t : Bool) (m j : ℕ) → m < 2 ^ 53 → natAbs (signed s n -ℤ signed s (roundedUnits n)) ≤ natAbs (signed s n -ℤ signed t (m * 2 ^ j))
   near-signed t m j h =
-      le-trans (le-of-eq (same-sign s n size-of))
+      le-trans (le-of-eq (same-sign s n (roundedUnits n)))
       (⊎-elim
       (λ e. le-trans (digits-near n m j h) (le-of-eq (sym (same-distance e ∙ same-sign s n (m * 2 ^ j)))))
       (λ e. le-trans (digits-near n 0 0 (pow-pos 53)) (le-trans (farther n (m * 2 ^ j)) (le-of-eq (sym (same-distance e ∙ other-sign s n (m * 2 ^ j))))))
@@ -135,22 +133,22 @@ module _ (s : Bool) (n : ℕ) where
   signed-zero-same : (t : Bool) → signed t 0 ≡ signed s 0
   signed-zero-same t = signed-zero t ∙ sym (signed-zero s)
 
-  even-signed : (t : Bool) (m j : ℕ) → m < 2 ^ 53 → (signed t (m * 2 ^ j) ≡ signed s size-of → ⊥) → natAbs (signed s n -ℤ signed s size-of) ≡ natAbs (signed s n -ℤ signed t (m * 2 ^ j)) → significandOf n % 2 ≡ 0
+  even-signed : (t : Bool) (m j : ℕ) → m < 2 ^ 53 → (signed t (m * 2 ^ j) ≡ signed s (roundedUnits n) → ⊥) → natAbs (signed s n -ℤ signed s (roundedUnits n)) ≡ natAbs (signed s n -ℤ signed t (m * 2 ^ j)) → significandOf n % 2 ≡ 0
   even-signed t m j h d e =
-      let e′ : absDiff n size-of ≡ natAbs (signed s n -ℤ signed t (m * 2 ^ j)) = sym (same-sign s n size-of) ∙ e in
+      let e′ : absDiff n (roundedUnits n) ≡ natAbs (signed s n -ℤ signed t (m * 2 ^ j)) = sym (same-sign s n (roundedUnits n)) ∙ e in
       ⊎-elim (λ g. same g e′) (λ g. other g e′) (by-sign s t)
     where
-      same : t ≡ s → absDiff n size-of ≡ natAbs (signed s n -ℤ signed t (m * 2 ^ j)) → significandOf n % 2 ≡ 0
+      same : t ≡ s → absDiff n (roundedUnits n) ≡ natAbs (signed s n -ℤ signed t (m * 2 ^ j)) → significandOf n % 2 ≡ 0
       same g f =
           digits-even n m j h (λ k. d (ap₂ (λ (x : Bool) (y : ℕ). signed x y) g k))
           (f ∙ ap (λ (x : Bool). natAbs (signed s n -ℤ signed x (m * 2 ^ j))) g ∙ same-sign s n (m * 2 ^ j))
 
-      other : t ≡ not s → absDiff n size-of ≡ natAbs (signed s n -ℤ signed t (m * 2 ^ j)) → significandOf n % 2 ≡ 0
+      other : t ≡ not s → absDiff n (roundedUnits n) ≡ natAbs (signed s n -ℤ signed t (m * 2 ^ j)) → significandOf n % 2 ≡ 0
       other g f =
-          let a : absDiff n size-of ≡ n + m * 2 ^ j = f ∙ ap (λ (x : Bool). natAbs (signed s n -ℤ signed x (m * 2 ^ j))) g ∙ other-sign s n (m * 2 ^ j) in
+          let a : absDiff n (roundedUnits n) ≡ n + m * 2 ^ j = f ∙ ap (λ (x : Bool). natAbs (signed s n -ℤ signed x (m * 2 ^ j))) g ∙ other-sign s n (m * 2 ^ j) in
           let b = digits-near n 0 0 (pow-pos 53) in
           let z : m * 2 ^ j ≡ 0 = omega arith in
-          let w : absDiff n size-of ≡ absDiff n (0 * 2 ^ 0) = omega arith in
+          let w : absDiff n (roundedUnits n) ≡ absDiff n (0 * 2 ^ 0) = omega arith in
           digits-even n 0 0 (pow-pos 53) (λ k. d (ap (signed t) z ∙ signed-zero-same t ∙ ap (signed s) k)) w
 
 -- ---- the bits of the sum
@@ -185,17 +183,23 @@ module _ (s : Bool) (n : ℕ) (h : n < limit) where
   bits-finite : finiteBits bits ≡ true
   bits-finite = sym (finite-binary64 bits) ∙ ap Scale.finite float-back ∙ is-true (Scale.finite x) (limit-number s n h)
 
-  bits-value : (negative bits ≡ s) × (magnitude bits ≡ significandOf n * 2 ^ droppedDigits n)
+  bits-value : (negative bits ≡ s) × (magnitude bits ≡ roundedUnits n)
   bits-value =
-      unique x s (negative bits) (significandOf n * 2 ^ droppedDigits n) (magnitude bits) (limit-value s n h)
+      unique x s (negative bits) (roundedUnits n) (magnitude bits) (limit-value s n h)
       (subst (λ (y : Float). HasValue y (negative bits) (magnitude bits) (2 ^ 1074)) float-back (value-binary64 bits (toBits-lt binary64 x (round-fits binary64 s n (2 ^ 1074))) bits-finite))
 
   bits-even : significandOf n % 2 ≡ 0 → significand bits % 2 ≡ 0
   bits-even e = significand-even bits (ap (λ (b : ℕ). b % 2) (packed-bits s n (limit-finite n h)) ∙ packed-even s (droppedDigits n) (significandOf n) e)
 
-size-sign : (k : ℤ) → k ≡ signed (not (nonNeg k)) (natAbs k)
+pub size-sign : (k : ℤ) → k ≡ signed (not (nonNeg k)) (natAbs k)
 size-sign (pos n) = refl
 size-sign (negsuc n) = refl
+
+pub nearest-value : (k : ℤ) → tooLarge k ≡ false → doubleValue (nearestDouble k) ≡ signed (not (nonNeg k)) (roundedUnits (natAbs k))
+unfolding tooLarge nearestDouble
+nearest-value k e =
+    let v = bits-value (not (nonNeg k)) (natAbs k) (leb-false limit (natAbs k) e) in
+    ap₂ (λ (t : Bool) (a : ℕ). signed t a) (v .0) (v .1)
 
 pub nearest-double : (k : ℤ) → tooLarge k ≡ false → NearestFinite k (toBits binary64 (nearestDouble k))
 unfolding tooLarge nearestDouble
@@ -204,8 +208,8 @@ nearest-double k e =
     let n = natAbs k in
     let h : n < limit = leb-false limit n e in
     let b = bits s n h in
-    let v : value b ≡ signed s (significandOf n * 2 ^ droppedDigits n) = ap₂ (λ (t : Bool) (a : ℕ). signed t a) (bits-value s n h .0) (bits-value s n h .1) in
-    let d : natAbs (k -ℤ value b) ≡ natAbs (signed s n -ℤ signed s (significandOf n * 2 ^ droppedDigits n)) = ap₂ (λ (x y : ℤ). natAbs (x -ℤ y)) (size-sign k) v in
+    let v : value b ≡ signed s (roundedUnits n) = nearest-value k e in
+    let d : natAbs (k -ℤ value b) ≡ natAbs (signed s n -ℤ signed s (roundedUnits n)) = ap₂ (λ (x y : ℤ). natAbs (x -ℤ y)) (size-sign k) v in
     let f : (c : ℕ) → natAbs (signed s n -ℤ value c) ≡ natAbs (k -ℤ value c) = λ c. ap (λ (x : ℤ). natAbs (x -ℤ value c)) (sym (size-sign k)) in
     record {
       is-finite = bits-finite s n h;

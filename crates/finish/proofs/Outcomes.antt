@@ -8,7 +8,7 @@ use Prim.Native.Nat.{ℕ, _^_}
 use lib.Dec.{T, eqb}
 use lib.IntN.{ℤ, natAbs}
 use lib.Signed.{nonNeg}
-use lib.Ieee.{Float, binary64, ofBits, toBits}
+use lib.Ieee.{binary64, ofBits, toBits}
 use lib.Ieee.Bits.{ofBits-toBits}
 use lib.Ieee.Fits.{round-fits}
 use lib.Ieee.Scale.{finite}
@@ -19,7 +19,8 @@ use Rattle.record.specs.Sound.{sound, soundRecord}
 use Rattle.record.specs.Section.{Section, kept, meaning, sections, find}
 use Rattle.finish.specs.Sum.{nearestDouble, tooLarge}
 use Rattle.finish.specs.Figure.{beyond}
-use Rattle.finish.specs.Finish.{sumFor, figureFor, lineFor, sumGrounds, figureGrounds, finishedBy, foundGrounds, finishingGrounds, sumOf, figureOf, lineOf, finishing, sumOutcome, figureOutcome, lineOutcome}
+use Rattle.finish.specs.Side.{side}
+use Rattle.finish.specs.Finish.{RoundedSum, doubleFor, sumFor, figureFor, lineFor, sumGrounds, figureGrounds, finishedBy, foundGrounds, finishingGrounds, sumOf, figureOf, lineOf, finishing, sumOutcome, figureOutcome, lineOutcome}
 use Rattle.finish.specs.Answer.{sumAnswer}
 use Rattle.finish.specs.Steps.{LookedUp, keptSum, FiniteSum, figureBy, lineBy}
 use Rattle.record.specs.declared.Record.{Record}
@@ -40,14 +41,14 @@ by-size k P large small = go (tooLarge k) (double-finite k)
     go false h = small (h refl)
 
 -- the sum of a section that is there, with b for whether it is too large
-abbrev sumBy : Section → Bool → Outcome Float
-sumBy s b = cond b (refused 14) (accepted (nearestDouble (kept s)))
+abbrev sumBy : Section → Bool → Outcome RoundedSum
+sumBy s b = cond b (refused 14) (accepted (sumFor s))
 
 pub sum-for : (s : Section) → sumAnswer (keptSum (kept s)) ≡ sumOf (some s)
-sum-for s = by-size (kept s) (λ (b : Bool). sumAnswer (cond b TooLarge (Finite (nearestDouble (kept s)))) ≡ sumBy s b) refl (λ f. refl)
+sum-for s = by-size (kept s) (λ (b : Bool). sumAnswer (cond b TooLarge (Finite (doubleFor s) (sumFor s .side))) ≡ sumBy s b) refl (λ f. refl)
 
 pub finite-for : (k : ℤ) → FiniteSum (keptSum k)
-finite-for k = by-size k (λ (b : Bool). FiniteSum (cond b TooLarge (Finite (nearestDouble k)))) tt (λ f. f)
+finite-for k = by-size k (λ (b : Bool). FiniteSum (cond b TooLarge (Finite (nearestDouble k) (side (nearestDouble k) k)))) tt (λ f. f)
 
 pub figure-by : (s : Section) → figureOf (some s) ≡ figureBy (sumOf (some s))
 figure-by s = by-size (kept s) (λ (b : Bool). cond b (refused 14) (outcome (ground 15 (beyond (figureFor s)) ∷ []) (figureFor s)) ≡ figureBy (sumBy s b)) refl (λ f. refl)
@@ -57,12 +58,12 @@ line-by s = by-size (kept s) (λ (b : Bool). cond b (refused 14) (outcome (groun
 
 -- ---- what an accepted sum and an accepted line say
 
-pub record SumGiven (s : Section) (x : Float) : Type 0 where
-  pub is : nearestDouble (kept s) ≡ x
+pub record SumGiven (s : Section) (x : RoundedSum) : Type 0 where
+  pub is : sumFor s ≡ x
   pub small : tooLarge (kept s) ≡ false
-  pub finite-sum : T (finite x)
+  pub finite-sum : T (finite (x .sum))
 
-pub sum-given : (s : Section) (x : Float) → sumOf (some s) ≡ accepted x → SumGiven s x
+pub sum-given : (s : Section) (x : RoundedSum) → sumOf (some s) ≡ accepted x → SumGiven s x
 sum-given s x e =
     let q = accepted-value (sumGrounds s) (sumFor s) e in
     let l = accepted-not 14 (sumGrounds s) (sumFor s) e in
@@ -135,7 +136,10 @@ pub finite-outcome : (a : SectionSum) (s : List ℕ) (g k : ℕ) → sumAnswer a
 finite-outcome Absent s g k e = tt
 finite-outcome TooLarge s g k e = tt
 finite-outcome NotSound s g k e = tt
-finite-outcome (Finite x) s g k e = let t = section-given sumGrounds sumFor s g k x e in sum-given (t .0) x (t .1) .finite-sum
+finite-outcome (Finite x d) s g k e =
+    let y : RoundedSum = record { sum = x; side = d } in
+    let t = section-given sumGrounds sumFor s g k y e in
+    sum-given (t .0) y (t .1) .finite-sum
 
 -- so is the sum of a line
 pub finite-line : (l : FinishedLine) (s : List ℕ) (g k : ℕ) → accepted l ≡ lineOutcome s g k → T (finite (l .sum))

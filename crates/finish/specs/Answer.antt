@@ -1,8 +1,8 @@
 -- The answers of finishing: document 01's number and values for each case.
 use lib.IntN.{ℤ}
-use lib.Ieee.{Float}
 use Rattle.refusal.specs.Outcome.{Outcome, accepted, refused}
 use Rattle.refusal.specs.Number.{numberOf}
+use Rattle.finish.specs.Finish.{RoundedSum}
 use Rattle.finish.specs.declared.SectionSum.{SectionSum}
 use Rattle.finish.specs.declared.SectionSum.the-variants.{Finite, Absent, TooLarge, NotSound}
 use Rattle.finish.specs.declared.FigureAnswer.{FigureAnswer}
@@ -11,9 +11,9 @@ use Rattle.finish.specs.declared.FinishedLine.{FinishedLine}
 use Rattle.finish.specs.declared.LineAnswer.{LineAnswer}
 use Rattle.finish.specs.declared.LineAnswer.the-variants as lineAnswers
 
--- a sum's four cases: a finite double, 13, 14 and 7
-abbrev pub sumAnswer : SectionSum → Outcome Float
-sumAnswer (Finite x) = accepted x
+-- a sum's four cases: a finite double with its side, 13, 14 and 7
+abbrev pub sumAnswer : SectionSum → Outcome RoundedSum
+sumAnswer (Finite x d) = accepted (record { sum = x; side = d })
 sumAnswer Absent = refused 13
 sumAnswer TooLarge = refused 14
 sumAnswer NotSound = refused 7

@@ -5,7 +5,7 @@ use mathlib.Core.Bool.{true, false}
 use mathlib.Core.List.{List, [], _∷_, map}
 use mathlib.Core.Option.{some}
 use lib.IntN.{ℤ, pos, negℤ}
-use lib.Ieee.{Float, binary64, ofBits, round}
+use lib.Ieee.{binary64, toBits, ofBits, round}
 use Rattle.refusal.specs.Outcome.{Outcome, accepted, refused}
 use Rattle.level.specs.Level.{top, contribution, topOf, total}
 use Rattle.codec.specs.Bytes.{bytes, number, numberAt}
@@ -14,44 +14,59 @@ use Rattle.record.specs.Layout.{encode, decode}
 use Rattle.record.specs.Keys.{rising}
 use Rattle.record.specs.Sound.{sound, soundRecords, soundRecord, soundTotal, isZero}
 use Rattle.record.specs.Section.{sectionAtTop, sectionOf, kept, sectionBytes, find}
+use Rattle.limbs.specs.declared.Side.{Side}
+use Rattle.limbs.specs.declared.Side.the-variants.{Less, Equal, Greater}
 use Rattle.finish.specs.Sum.{nearestDouble, limit, tooLarge}
+use Rattle.finish.specs.Side.{side}
 use Rattle.finish.specs.Figure.{millFigure, beyond}
-use Rattle.finish.specs.Finish.{sumOf, figureOf, lineOutcome}
+use Rattle.finish.specs.Finish.{RoundedSum, sumOf, figureOf, lineOutcome}
 use Rattle.finish.specs.declared.FinishedLine.{FinishedLine}
 
 -- the sum of the section of these rows
-sumOfRows : List ℕ → Outcome Float
+sumOfRows : List ℕ → Outcome RoundedSum
 sumOfRows bs = sumOf (some (sectionOf 1 bs))
 
 -- the mill figure of the section of this row
 figureOfRow : ℕ → Outcome ℤ
 figureOfRow b = figureOf (some (sectionOf 1 (b ∷ [])))
 
--- the sum with these bits
-sumWithBits : ℕ → Outcome Float
-sumWithBits b = accepted (ofBits binary64 b)
+-- the sum with these bits, on this side of the kept value
+sumWithBits : ℕ → Side → Outcome RoundedSum
+sumWithBits b d = accepted (record { sum = ofBits binary64 b; side = d })
 
--- subnormals; a tie down, up and just passed, on either side of 0; the bound of 14 and one unit of the lowest level below it, on either side
+-- subnormals; a tie down, up, just passed and just not reached, on either side of 0; a tie at the end of a binade, and just below it; rows that cancel;
+-- the bound of 14 and one unit of the lowest level below it, on either side
 rowSets : List (List ℕ)
 rowSets =
     (1 ∷ 2 ∷ []) ∷ (0x000FFFFFFFFFFFFF ∷ 1 ∷ []) ∷ (0x8000000000000001 ∷ 0x8000000000000002 ∷ [])
     ∷ (0x3FF0000000000000 ∷ 0x3CA0000000000000 ∷ [])
     ∷ (0x3FF0000000000001 ∷ 0x3CA0000000000000 ∷ [])
     ∷ (0x3FF0000000000000 ∷ 0x3CA0000000000000 ∷ 0x39B0000000000000 ∷ [])
+    ∷ (0x3FF0000000000001 ∷ 0x3CA0000000000000 ∷ 0xB9B0000000000000 ∷ [])
     ∷ (0xBFF0000000000000 ∷ 0xBCA0000000000000 ∷ [])
     ∷ (0xBFF0000000000001 ∷ 0xBCA0000000000000 ∷ [])
+    ∷ (0xBFF0000000000000 ∷ 0xBCA0000000000000 ∷ 0xB9B0000000000000 ∷ [])
+    ∷ (0xBFF0000000000001 ∷ 0xBCA0000000000000 ∷ 0x39B0000000000000 ∷ [])
+    ∷ (0x3FFFFFFFFFFFFFFF ∷ 0x3CA0000000000000 ∷ []) ∷ (0x3FFFFFFFFFFFFFFF ∷ 0x3CA0000000000000 ∷ 0xB9B0000000000000 ∷ [])
+    ∷ (0xBFFFFFFFFFFFFFFF ∷ 0xBCA0000000000000 ∷ []) ∷ (0xBFFFFFFFFFFFFFFF ∷ 0xBCA0000000000000 ∷ 0x39B0000000000000 ∷ [])
+    ∷ (0xBFF8000000000000 ∷ 0x3FF8000000000000 ∷ [])
     ∷ (0x7FEFFFFFFFFFFFFF ∷ 0x7C90000000000000 ∷ []) ∷ (0x7FEFFFFFFFFFFFFF ∷ 0x7C8FFFFFFFFFFE00 ∷ [])
     ∷ (0xFFEFFFFFFFFFFFFF ∷ 0xFC90000000000000 ∷ []) ∷ (0xFFEFFFFFFFFFFFFF ∷ 0xFC8FFFFFFFFFFE00 ∷ [])
     ∷ []
 
 -- their sums
-sumsOfRows : List (Outcome Float)
+sumsOfRows : List (Outcome RoundedSum)
 sumsOfRows =
-    sumWithBits 3 ∷ sumWithBits 0x0010000000000000 ∷ sumWithBits 0x8000000000000003
-    ∷ sumWithBits 0x3FF0000000000000 ∷ sumWithBits 0x3FF0000000000002 ∷ sumWithBits 0x3FF0000000000001
-    ∷ sumWithBits 0xBFF0000000000000 ∷ sumWithBits 0xBFF0000000000002
-    ∷ refused 14 ∷ sumWithBits 0x7FEFFFFFFFFFFFFF
-    ∷ refused 14 ∷ sumWithBits 0xFFEFFFFFFFFFFFFF
+    sumWithBits 3 Equal ∷ sumWithBits 0x0010000000000000 Equal ∷ sumWithBits 0x8000000000000003 Equal
+    ∷ sumWithBits 0x3FF0000000000000 Less ∷ sumWithBits 0x3FF0000000000002 Greater
+    ∷ sumWithBits 0x3FF0000000000001 Greater ∷ sumWithBits 0x3FF0000000000001 Less
+    ∷ sumWithBits 0xBFF0000000000000 Greater ∷ sumWithBits 0xBFF0000000000002 Less
+    ∷ sumWithBits 0xBFF0000000000001 Less ∷ sumWithBits 0xBFF0000000000001 Greater
+    ∷ sumWithBits 0x4000000000000000 Greater ∷ sumWithBits 0x3FFFFFFFFFFFFFFF Less
+    ∷ sumWithBits 0xC000000000000000 Less ∷ sumWithBits 0xBFFFFFFFFFFFFFFF Greater
+    ∷ sumWithBits 0 Equal
+    ∷ refused 14 ∷ sumWithBits 0x7FEFFFFFFFFFFFFF Less
+    ∷ refused 14 ∷ sumWithBits 0xFFEFFFFFFFFFFFFF Greater
     ∷ []
 
 -- 0.375 and -0.375; 1.5; the doubles on either side of 0.005, of -0.005, of 21474836.475 and of its negative;
@@ -87,7 +102,7 @@ figuresOfRows =
 
 -- the one claim
 cases : (map sumOfRows rowSets ≡ sumsOfRows) × (map figureOfRow figureRows ≡ figuresOfRows)
-unfolding sumOfRows figureOfRow rowSets sumsOfRows figureRows figuresOfRows sumWithBits natural negated top contribution topOf total sectionAtTop kept nearestDouble tooLarge millFigure beyond round ofBits
+unfolding sumOfRows figureOfRow rowSets sumsOfRows figureRows figuresOfRows sumWithBits natural negated top contribution topOf total sectionAtTop kept nearestDouble tooLarge side millFigure beyond round toBits ofBits
 cases = (refl, refl)
 
 -- at the bound of 14, and one unit of 2^-1074 below it
@@ -106,6 +121,6 @@ lines : List (Outcome FinishedLine)
 lines = lineOutcome oneSection 1 7 ∷ lineOutcome oneSection 1 8 ∷ lineOutcome oneSection 2 7 ∷ lineOutcome [] 0 5 ∷ lineOutcome [] 1 5 ∷ []
 
 -- and what document 01 says
-lines-right : lines ≡ accepted (record { key = 7; count = 1; sum = ofBits binary64 0x3FF8000000000000; figure = pos 150 }) ∷ refused 13 ∷ refused 7 ∷ refused 13 ∷ refused 7 ∷ []
-unfolding oneSection lines find kept nearestDouble tooLarge millFigure beyond round ofBits sound soundRecords soundRecord soundTotal isZero rising cells image decode encode bytes numberAt number
+lines-right : lines ≡ accepted (record { key = 7; count = 1; sum = ofBits binary64 0x3FF8000000000000; figure = pos 150; side = Equal }) ∷ refused 13 ∷ refused 7 ∷ refused 13 ∷ refused 7 ∷ []
+unfolding oneSection lines find kept nearestDouble tooLarge side millFigure beyond round toBits ofBits sound soundRecords soundRecord soundTotal isZero rising cells image decode encode bytes numberAt number
 lines-right = refl

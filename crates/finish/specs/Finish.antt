@@ -9,22 +9,33 @@ use Rattle.refusal.specs.Outcome.{Outcome, refused, Ground, ground, outcome}
 use Rattle.record.specs.Sound.{sound}
 use Rattle.record.specs.Section.{Section, kept, sections, find}
 use Rattle.finish.specs.Sum.{nearestDouble, tooLarge}
+use Rattle.limbs.specs.declared.Side.{Side}
+use Rattle.finish.specs.Side.{side}
 use Rattle.finish.specs.Figure.{millFigure, beyond}
 use Rattle.finish.specs.declared.FinishedLine.{FinishedLine}
+
+-- a sum, and its side of the kept value
+pub record RoundedSum : Type 0 where
+  pub sum : Float
+  pub side : Side
 
 -- ---- of a section
 
 -- a section's sum
-abbrev pub sumFor : Section → Float
-sumFor s = nearestDouble (kept s)
+abbrev pub doubleFor : Section → Float
+doubleFor s = nearestDouble (kept s)
+
+-- a section's sum and its side of the kept value
+abbrev pub sumFor : Section → RoundedSum
+sumFor s = record { sum = doubleFor s; side = side (doubleFor s) (kept s) }
 
 -- a section's mill figure
 abbrev pub figureFor : Section → ℤ
-figureFor s = millFigure (sumFor s)
+figureFor s = millFigure (doubleFor s)
 
--- a section's finished line: section, row count, sum and mill figure
+-- a section's finished line: section, row count, sum, mill figure and the sum's side
 abbrev pub lineFor : Section → FinishedLine
-lineFor s = record { key = s .key; count = s .count; sum = sumFor s; figure = figureFor s }
+lineFor s = record { key = s .key; count = s .count; sum = doubleFor s; figure = figureFor s; side = sumFor s .side }
 
 -- the condition of a sum: 14
 abbrev pub sumGrounds : Section → List Ground
@@ -42,7 +53,7 @@ finishedBy gs v none = refused 13
 finishedBy gs v (some s) = outcome (gs s) (v s)
 
 -- document 01's sum of a section
-abbrev pub sumOf : Option Section → Outcome Float
+abbrev pub sumOf : Option Section → Outcome RoundedSum
 sumOf o = finishedBy sumGrounds sumFor o
 
 -- its mill figure
@@ -69,7 +80,7 @@ abbrev pub finishingGrounds : (Section → List Ground) → List ℕ → ℕ →
 finishingGrounds gs s g k = ground 7 (not (sound s g)) ∷ foundGrounds gs (find k (sections s g))
 
 -- the outcome of a sum
-abbrev pub sumOutcome : List ℕ → ℕ → ℕ → Outcome Float
+abbrev pub sumOutcome : List ℕ → ℕ → ℕ → Outcome RoundedSum
 sumOutcome s g k = finishing sumOf s g k
 
 -- the outcome of a mill figure

@@ -1,5 +1,6 @@
 -- The definitions that the contracts cite.
 pub mod Sum
+pub mod Side
 pub mod Figure
 pub mod Finish
 pub mod Answer

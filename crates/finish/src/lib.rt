@@ -1,5 +1,6 @@
 // Finishing a section: the double nearest to its kept value, and the mill figure of that double.
 use level::SplitTotal;
+use limbs::Side;
 use record::Place;
 use record::Record;
 use refusal::Refusal;
@@ -19,12 +20,13 @@ ghost use Rattle.limbs.specs.Nearest.{nearestBy};
 ghost use Rattle.finish.specs.Figure.{millFigure, beyond};
 ghost use Rattle.finish.specs.Finish.{figureOf, lineOf, sumOutcome, figureOutcome, lineOutcome};
 ghost use Rattle.finish.specs.Answer.{sumAnswer, figureAnswer, lineAnswer};
+ghost use Rattle.finish.specs.Side.{oppositeSide};
 ghost use Rattle.finish.specs.Steps.{LookedUp, keptSum, sumOfBits, FiniteSum, figureBy, lineBy};
 ghost use Rattle.finish.specs.Raised.{carryRaise, totalRaise, raisedCarry, raisedTotal, Stacked};
 
-// A section's sum: a finite double, absent, or too large; or the table is not sound.
+// A section's sum: a finite double with its side of the kept value, absent, or too large; or the table is not sound.
 pub enum SectionSum {
-    Finite(f64),
+    Finite(f64, Side),
     Absent,
     TooLarge,
     NotSound,
@@ -36,12 +38,13 @@ pub enum FigureAnswer {
     Refused(Refusal),
 }
 
-// A section's number, its row count, its sum and its mill figure.
+// A section's number, its row count, its sum, its mill figure and the sum's side of the kept value.
 pub struct FinishedLine {
     pub key: u32,
     pub count: u32,
     pub sum: f64,
     pub figure: i32,
+    pub side: Side,
 }
 
 // A section's finished line, or why there is none.
@@ -96,17 +99,28 @@ fn set_sign(unsigned: u64) -> u64
     unsigned | (1 << 63)
 }
 
-// The sum that a sign and the other 63 bits stand for.
-fn sum_of_bits(unsigned: u64, negative: bool) -> SectionSum
-    ensures { λ r. ⌜ r ≡ sumOfBits unsigned negative ⌝ }
+// The side of two numbers with their signs turned.
+fn opposite_side(side: Side) -> Side
+    ensures { λ r. ⌜ r ≡ oppositeSide side ⌝ }
+{
+    match side {
+        Side::Less => Side::Greater,
+        Side::Equal => Side::Equal,
+        Side::Greater => Side::Less,
+    }
+}
+
+// The sum that a sign and the other 63 bits stand for, with the side of its size.
+fn sum_of_bits(unsigned: u64, negative: bool, side: Side) -> SectionSum
+    ensures { λ r. ⌜ r ≡ sumOfBits unsigned negative side ⌝ }
 {
     if unsigned >= 2047 << 52 {
         return SectionSum::TooLarge;
     }
     if negative {
-        return SectionSum::Finite(f64::from_bits(set_sign(unsigned)));
+        return SectionSum::Finite(f64::from_bits(set_sign(unsigned)), opposite_side(side));
     }
-    SectionSum::Finite(f64::from_bits(unsigned))
+    SectionSum::Finite(f64::from_bits(unsigned), side)
 }
 
 // The sum of a sound record: the double nearest to its kept value, whose first limb counts level top - 2.
@@ -117,9 +131,11 @@ pub fn record_sum(r: Record) -> SectionSum
     let d = limbs::signed_difference(raised_limbs(r.high, r.middle, r.low), raise());
     let size = d.limbs;
     if limbs::is_zero(size) {
-        return SectionSum::Finite(0.0);
+        return SectionSum::Finite(0.0, Side::Equal);
     }
-    sum_of_bits(limbs::nearest_bits(size, 40 * (r.top as u64)), d.negative)
+    let rounding = limbs::nearest_bits(size, 40 * (r.top as u64));
+    let side = rounding.side;
+    sum_of_bits(rounding.unsigned, d.negative, side)
 }
 
 // 100 times m / 2^r to the nearest whole number; an exact half goes up, which for a negative sum is down in size.
@@ -187,7 +203,7 @@ fn figure_by(sum: SectionSum) -> FigureAnswer
     ensures { λ r. ⌜ figureAnswer r ≡ figureBy (sumAnswer sum) ⌝ }
 {
     match sum {
-        SectionSum::Finite(x) => mill_figure(x),
+        SectionSum::Finite(x, _) => mill_figure(x),
         SectionSum::Absent => FigureAnswer::Refused(Refusal::SectionAbsent),
         SectionSum::TooLarge => FigureAnswer::Refused(Refusal::SumTooLarge),
         SectionSum::NotSound => FigureAnswer::Refused(Refusal::TableNotSound),
@@ -195,9 +211,9 @@ fn figure_by(sum: SectionSum) -> FigureAnswer
 }
 
 // The finished line of a finite sum.
-fn line_of_double(key: u32, count: u32, sum: f64) -> LineAnswer
+fn line_of_double(key: u32, count: u32, sum: f64, side: Side) -> LineAnswer
     requires { ⌜ T (finite sum) ⌝ }
-    ensures { λ r. ⌜ lineAnswer r ≡ lineBy key count (accepted sum) ⌝ }
+    ensures { λ r. ⌜ lineAnswer r ≡ lineBy key count (accepted (record { sum = sum; side = side })) ⌝ }
 {
     match mill_figure(sum) {
         FigureAnswer::Figure(figure) => LineAnswer::Line(FinishedLine {
@@ -205,6 +221,7 @@ fn line_of_double(key: u32, count: u32, sum: f64) -> LineAnswer
             count,
             sum,
             figure,
+            side,
         }),
         FigureAnswer::Refused(r) => LineAnswer::Refused(r),
     }
@@ -216,7 +233,7 @@ fn line_by(key: u32, count: u32, sum: SectionSum) -> LineAnswer
     ensures { λ r. ⌜ lineAnswer r ≡ lineBy key count (sumAnswer sum) ⌝ }
 {
     match sum {
-        SectionSum::Finite(x) => line_of_double(key, count, x),
+        SectionSum::Finite(x, side) => line_of_double(key, count, x, side),
         SectionSum::Absent => LineAnswer::Refused(Refusal::SectionAbsent),
         SectionSum::TooLarge => LineAnswer::Refused(Refusal::SumTooLarge),
         SectionSum::NotSound => LineAnswer::Refused(Refusal::TableNotSound),

@@ -12,9 +12,11 @@ use Rattle.level.specs.Level.{topFrom, top, given, contribution, topOf, total}
 use Rattle.columns.specs.declared.Kind.the-variants.{Double}
 use Rattle.columns.specs.Columns.{width, Row, rowsFrom, columnsFit, rowsOf}
 use Rattle.record.specs.Section.{Section, sections, written, find, kept, sectionAtTop}
+use Rattle.limbs.specs.declared.Side.the-variants.{Equal}
 use Rattle.finish.specs.Sum.{tooLarge, nearestDouble}
+use Rattle.finish.specs.Side.{side}
 use Rattle.finish.specs.Figure.{millFigure, beyond}
-use lib.Ieee.{binary64, ofBits, round}
+use lib.Ieee.{toBits, binary64, ofBits, round}
 use lib.IntN.{pos}
 use Rattle.record.specs.Layout.{encode, decode}
 use Rattle.record.specs.Keys.{rising}
@@ -98,8 +100,8 @@ threeQuestions =
     addTo 0 (7 ∷ 7 ∷ 7 ∷ []) (0x43B0000000000000 ∷ 0x4008000000000000 ∷ 0xC3B0000000000000 ∷ []) tt
     ∷ ask 0 (sum 7) ∷ ask 0 (figure 7) ∷ ask 0 (line 8) ∷ []
 
--- they sum to 3; mill figure 300; section 8 is absent
+-- they sum to 3, not rounded; mill figure 300; section 8 is absent
 finished : answers emptyTables threeQuestions
-    ≡ groupsAre (accepted 1) ∷ sumIs (accepted (ofBits binary64 0x4008000000000000)) ∷ figureIs (accepted (pos 300)) ∷ lineIs (refused 13) ∷ []
-unfolding threeQuestions leftInTable0 find kept tooLarge nearestDouble millFigure beyond ofBits round
+    ≡ groupsAre (accepted 1) ∷ sumIs (accepted (record { sum = ofBits binary64 0x4008000000000000; side = Equal })) ∷ figureIs (accepted (pos 300)) ∷ lineIs (refused 13) ∷ []
+unfolding threeQuestions leftInTable0 find kept tooLarge nearestDouble side millFigure beyond ofBits toBits round
 finished = refl

@@ -3,10 +3,9 @@ use Prim.Native.Nat.{ℕ}
 use mathlib.Core.Bool.{Bool}
 use mathlib.Core.List.{List, [], _∷_}
 use lib.IntN.{ℤ}
-use lib.Ieee.{Float}
 use Rattle.refusal.specs.Outcome.{Outcome, accepted, refused, isRefusal}
 use Rattle.finish.specs.declared.FinishedLine.{FinishedLine}
-use Rattle.finish.specs.Finish.{sumOf, figureOf, lineOf, sumOutcome, figureOutcome, lineOutcome}
+use Rattle.finish.specs.Finish.{RoundedSum, sumOf, figureOf, lineOf, sumOutcome, figureOutcome, lineOutcome}
 use Rattle.columns.specs.declared.Kind.{Kind}
 use Rattle.columns.specs.Columns.{Row}
 use Rattle.table.specs.Calls.{addOutcome, addLeaves, mergeOutcome, mergeLeaves}
@@ -58,10 +57,10 @@ stateAfter s (c ∷ cs) = stateAfter (step s c) cs
 
 -- ---- answers
 
--- what a call answers: the new group count, a sum, a mill figure or a finished line
+-- what a call answers: the new group count, a sum with its side, a mill figure or a finished line
 pub data Answer : Type 0 where
   groupsAre : Outcome ℕ → Answer
-  sumIs : Outcome Float → Answer
+  sumIs : Outcome RoundedSum → Answer
   figureIs : Outcome ℤ → Answer
   lineIs : Outcome FinishedLine → Answer
 

@@ -1,11 +1,11 @@
 -- The bits of the double nearest to n units of 2^-1074. The idea: a finite value's bits are its digits and how many zeros follow them, and a carry out of the
 -- 53 digits raises the field by one, as it should; so digits and field are added, and an infinity comes out just where the sum reaches the field 2047.
-use mathlib.Core.Path.{_≡_, sym, ap, _∙_, subst}
+use mathlib.Core.Path.{_≡_, refl, sym, ap, _∙_, subst}
 use mathlib.Core.Logic.{_⊎_, inl, inr, ⊎-elim}
-use Prim.Native.Nat.{ℕ, suc, _+_, _-_, _*_, _/_, _^_, _≤_, _<_}
+use Prim.Native.Nat.{ℕ, suc, _+_, _-_, _*_, _/_, _^_, _≤_, _<_, Ordering}
 use native.Mathlib.Nat.{le-trans, le-of-eq, le-refl, le-antisymm, eq-or-lt-of-le, lt-of-lt-of-le, lt-of-le-of-lt, lt-of-not-le, not-le-of-lt, mul-one, mul-assoc, mul-div-cancel, mul-le-mul-right, div-one, zero-add, suc-add, lt-suc-self, le-div-iff-mul-le, mul-pos, mul-le-mul, add-assoc}
 use native.Mathlib.Omega.{arith}
-use mathlib.Core.Bool.{Bool}
+use mathlib.Core.Bool.{Bool, true}
 use lib.Dec.{ltb, lit<}
 use lib.Arith.{le→nltb}
 use lib.Pow.{pow-add, pow-pos, pow-mono, pow-lt, shl-lt}
@@ -15,10 +15,10 @@ use lib.Ieee.Fits.{down-pos, round-is, round-fits, kept-lt}
 use lib.Ieee.Exact.{HasValue, units-val}
 use lib.Ieee.Bits.{ofBits-toBits, cond-no}
 use lib.Ieee.Nearest.{closest, closest-same}
-use Rattle.integers.proofs.Naturals.{le-or-lt, pow-sum}
-use Rattle.limbs.specs.Nearest.{isOdd}
-use Rattle.limbs.specs.Packed.{droppedDigits, significandOf, packed, infinite, signBit}
-use Rattle.limbs.proofs.Nearest.{nearest-floor, nearest-ceiling, closest-odd}
+use Rattle.integers.proofs.Naturals.{le-or-lt, pow-sum, order-cases}
+use Rattle.limbs.specs.Nearest.{isOdd, rounded, nearestBy}
+use Rattle.limbs.specs.Packed.{droppedDigits, significandOf, roundedUnits, packed, infinite, signBit}
+use Rattle.limbs.proofs.Nearest.{nearest-floor, nearest-ceiling, nearest-at, nearest-whole, closest-odd}
 
 -- ---- how many digits a number has
 
@@ -42,7 +42,7 @@ value-bits (fin t m e) s a h =
 
 -- ---- q times 2^k units, q having its 53 digits or k being 0
 
-none-dropped : (z : ℕ) → z ≤ 53 → z - 53 ≡ 0
+pub none-dropped : (z : ℕ) → z ≤ 53 → z - 53 ≡ 0
 none-dropped z h = omega arith
 
 dropped-is : (z k : ℕ) → z ≡ suc (52 + k) → z - 53 ≡ k
@@ -105,6 +105,35 @@ reaches n h =
 
 pub significand-ge : (n : ℕ) → (droppedDigits n ≡ 0) ⊎ (2 ^ 52 ≤ significandOf n)
 significand-ge n = ⊎-elim (λ h. inl (none-dropped (size n) h)) (λ h. inr (le-trans (reaches n h) (nearest-floor isOdd n (2 ^ droppedDigits n)))) (le-or-lt (size n) 53)
+
+-- a number of at most 53 digits keeps them all
+pub short-exact : (n : ℕ) → droppedDigits n ≡ 0 → roundedUnits n ≡ n
+short-exact n e =
+    ap (λ (k : ℕ). nearestBy isOdd n (2 ^ k) * 2 ^ k) e
+    ∙ mul-one (nearestBy isOdd n 1)
+    ∙ ap (λ (x : ℕ). nearestBy isOdd x 1) (sym (mul-one n))
+    ∙ nearest-whole isOdd n 1 (pow-pos 0)
+
+-- at the end of the numbers of 54 + j digits, from the exact half on, the next power of two is nearest: 2^53 - 1 is odd
+module _ (n j : ℕ) (l : 2 ^ (54 + j) ≤ n + 2 ^ j) (h : n < 2 ^ (54 + j)) where
+  end-digits : droppedDigits n ≡ suc j
+  end-digits =
+      let p : 2 ^ (54 + j) ≡ 2 ^ 54 * 2 ^ j = pow-add 2 54 j in
+      let q : 2 ^ (53 + j) ≡ 2 ^ 53 * 2 ^ j = pow-add 2 53 j in
+      let g : 2 ^ (53 + j) ≤ n = omega (arith, pow-pos j) in
+      let e : 54 + j ≡ suc (53 + j) = omega arith in
+      omega (arith, size-is n (53 + j) g (subst (λ (x : ℕ). n < 2 ^ x) e h))
+
+  end-significand : nearestBy isOdd n (2 ^ suc j) ≡ 2 ^ 53
+  end-significand =
+      let rest = n - (2 ^ 53 - 1) * 2 ^ suc j in
+      let p : 2 ^ (54 + j) ≡ 2 ^ 54 * 2 ^ j = pow-add 2 54 j in
+      let u : 2 * 2 ^ j ≡ 2 ^ suc j = pow-sum 1 j (suc j) (omega arith) in
+      nearest-at isOdd n (2 ^ suc j) (2 ^ 53 - 1) rest (omega (arith, pow-pos j)) (omega (arith, pow-pos j))
+      ∙ order-cases (λ (o : Ordering). rounded true (2 ^ 53 - 1) o ≡ 2 ^ 53) (rest * 2) (2 ^ suc j) (λ g. absurd (omega (arith, pow-pos j))) (λ e. refl) (λ g. refl)
+
+  pub end-rounded : roundedUnits n ≡ 2 ^ (54 + j)
+  end-rounded = ap (λ (k : ℕ). nearestBy isOdd n (2 ^ k) * 2 ^ k) end-digits ∙ ap (λ (q : ℕ). q * 2 ^ suc j) end-significand ∙ pow-sum 53 (suc j) (54 + j) (omega arith)
 
 round-units : (s : Bool) (n : ℕ) → round binary64 s n (2 ^ 1074) ≡ units binary64 s (significandOf n) (droppedDigits n)
 round-units s n =
@@ -169,7 +198,7 @@ pub packed-inf : (s : Bool) (n : ℕ) → infinite ≤ packed n → round binary
 packed-inf s n h = round-units s n ∙ units-inf s (significandOf n) (droppedDigits n) (infinite-above (significandOf n) (droppedDigits n) (significand-le n) (significand-ge n) h)
 
 -- below that it is finite, and a whole number of units
-pub packed-finite : (s : Bool) (n : ℕ) → packed n < infinite → HasValue (round binary64 s n (2 ^ 1074)) s (significandOf n * 2 ^ droppedDigits n) (2 ^ 1074)
+pub packed-finite : (s : Bool) (n : ℕ) → packed n < infinite → HasValue (round binary64 s n (2 ^ 1074)) s (roundedUnits n) (2 ^ 1074)
 packed-finite s n h =
     let q = significandOf n in
     let k = droppedDigits n in

@@ -1,10 +1,11 @@
 -- The bits of n units, read off a number w of just 160 digits that is n times a power of two. The idea: w's leading 53 digits are n's, and n has as many
 -- digits as w less that power; so both parts of the bits follow from w and the power.
-use mathlib.Core.Path.{_≡_, sym, ap, _∙_}
+use mathlib.Core.Path.{_≡_, sym, ap, ap₂, _∙_}
 use Prim.Native.Nat.{ℕ, _+_, _-_, _*_, _/_, _^_, _≤_, _<_}
 use native.Mathlib.Nat.{le-trans, le-of-eq, lt-of-lt-of-le, lt-of-le-of-lt, lt-of-not-le, not-le-of-lt, mul-one, mul-assoc, mul-right-comm, mul-div-cancel, mul-le-mul-right, eq-of-mul-eq-mul-right, zero-add}
 use native.Mathlib.Omega.{arith}
 use mathlib.Core.List.{List}
+use lib.IntN.{pos}
 use lib.ListN.{getD}
 use mir.Syntax.{w64}
 use mir.Val.{Fits}
@@ -15,8 +16,12 @@ use lib.Ieee.Positive.{first-pos}
 use Rattle.integers.proofs.Naturals.{pow-sum}
 use Rattle.limbs.specs.Limbs.{valueOf, ShiftedLeft}
 use Rattle.limbs.specs.Nearest.{isOdd, nearestBy}
-use Rattle.limbs.specs.Packed.{droppedDigits, significandOf, packed, unitsOf, mostScale, leadingDigits}
+use Rattle.limbs.specs.Packed.{droppedDigits, significandOf, roundedUnits, packed, unitsOf, mostScale, leadingDigits}
+use Rattle.limbs.specs.Side.{sideOf, packedSide}
+use Rattle.limbs.specs.declared.Side.the-variants.{Equal}
 use Rattle.limbs.proofs.Nearest.{nearest-same, nearest-whole}
+use Rattle.limbs.proofs.Sides.{side-equal, side-scale}
+use Rattle.limbs.proofs.Packed.{short-exact}
 use Rattle.limbs.proofs.Leading.{value-lt, value-ge}
 
 -- with n = 2^a * w / 2^b, and w of 160 digits
@@ -79,6 +84,23 @@ module _ (n w a b : ℕ) (e : n * 2 ^ b ≡ w * 2 ^ a) (lo : 2 ^ 159 ≤ w) (hi 
       ∙ nearest-whole isOdd n 1 (pow-pos 0)
       ∙ sym (ap (λ (y : ℕ). nearestBy isOdd y (2 ^ 107) / 2 ^ g) x ∙ ap (λ (y : ℕ). y / 2 ^ g) (nearest-whole isOdd (n * 2 ^ g) (2 ^ 107) (pow-pos 107)) ∙ mul-div-cancel n (pow-pos g))
 
+  -- where n has 53 digits or more, its nearest double is on the side that w's leading digits are on
+  pub scaled-side : b ≤ 107 + a → sideOf (pos (nearestBy isOdd w (2 ^ 107) * 2 ^ 107)) (pos w) ≡ packedSide n
+  scaled-side h =
+      let s : 107 + a ≡ droppedDigits n + b = omega (arith, scaled-size) in
+      let q = nearestBy isOdd w (2 ^ 107) in
+      let u : q * 2 ^ 107 * 2 ^ a ≡ roundedUnits n * 2 ^ b =
+      mul-assoc q (2 ^ 107) (2 ^ a)
+      ∙ ap (λ (x : ℕ). q * x) (pow-sum 107 a (droppedDigits n + b) s ∙ pow-add 2 (droppedDigits n) b)
+      ∙ sym (mul-assoc q (2 ^ droppedDigits n) (2 ^ b))
+      ∙ ap (λ (x : ℕ). x * 2 ^ droppedDigits n * 2 ^ b) (sym (same-significand s))
+      in
+      side-scale (q * 2 ^ 107) w (2 ^ a) (pow-pos a) ∙ ap₂ (λ (x y : ℕ). sideOf (pos x) (pos y)) u (sym e) ∙ sym (side-scale (roundedUnits n) n (2 ^ b) (pow-pos b))
+
+  -- where it has fewer, its nearest double is n
+  pub scaled-small-side : 107 + a < b → Equal ≡ packedSide n
+  scaled-small-side h = let d : droppedDigits n ≡ 0 = omega (arith, scaled-size) in sym (side-equal (roundedUnits n) n (short-exact n d))
+
 -- ---- of limbs times 2^t / 2^80, shifted left until their leading digit was set
 
 pub field-lt : (t by : ℕ) → t ≤ mostScale → 27 + t - by < 2 ^ 12
@@ -116,3 +138,9 @@ module _ (a r : List ℕ) (t by : ℕ) (n : ShiftedLeft a r by) (g : 2 ^ 39 ≤ 
       let g : 107 + t < 80 + by = omega arith in
       let k : by - (27 + t) ≡ 80 + by - (107 + t) = omega arith in
       ap (λ (x : ℕ). leadingDigits r / 2 ^ x) k ∙ sym (scaled-small (unitsOf a t) (valueOf r) t (80 + by) scaled-units lo hi g)
+
+  pub assembled-side : by ≤ 27 + t → sideOf (pos (leadingDigits r * 2 ^ 107)) (pos (valueOf r)) ≡ packedSide (unitsOf a t)
+  assembled-side h = scaled-side (unitsOf a t) (valueOf r) t (80 + by) scaled-units lo hi (omega arith)
+
+  pub assembled-small-side : 27 + t < by → Equal ≡ packedSide (unitsOf a t)
+  assembled-small-side h = scaled-small-side (unitsOf a t) (valueOf r) t (80 + by) scaled-units lo hi (omega arith)

@@ -2,3 +2,4 @@
 pub mod Limbs
 pub mod Nearest
 pub mod Packed
+pub mod Side

@@ -18,6 +18,10 @@ droppedDigits n = size n - 53
 abbrev pub significandOf : ℕ → ℕ
 significandOf n = nearestBy isOdd n (2 ^ droppedDigits n)
 
+-- the value of the double nearest to n units, in units
+abbrev pub roundedUnits : ℕ → ℕ
+roundedUnits n = significandOf n * 2 ^ droppedDigits n
+
 -- the bits of the double nearest to n units, without the sign: the hidden digit, which stands where the exponent field begins, adds one to it
 abbrev pub packed : ℕ → ℕ
 packed n = droppedDigits n * 2 ^ 52 + significandOf n

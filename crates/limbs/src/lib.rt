@@ -3,10 +3,25 @@ ghost use mathlib.Core.Path.{_≡_};
 ghost use mathlib.Core.Bool.{cond};
 ghost use Prim.Native.Nat.{_+_, _-_, _*_, _/_, _%_, _^_, _<_, _≤_, compare};
 ghost use lib.Dec.{eqb};
+ghost use lib.IntN.{pos};
 ghost use lib.ListN.{getD};
 ghost use Rattle.limbs.specs.Limbs.{valueOf, Reduced, Carried, DifferenceWithBias, withoutBias, SignedDifference, ShiftedLeft};
 ghost use Rattle.limbs.specs.Nearest.{rounded};
 ghost use Rattle.limbs.specs.Packed.{leadingDigits, packed, unitsOf, mostScale};
+ghost use Rattle.limbs.specs.Side.{sideOf, packedSide, roundedSide};
+
+// Which side of a value the number is on that it was rounded to: the number is less than it, equal to it or greater.
+pub enum Side {
+    Less,
+    Equal,
+    Greater,
+}
+
+// What a size was rounded to, a number or a double's bits without the sign, and its side of the size.
+pub struct Rounding {
+    pub unsigned: u64,
+    pub side: Side,
+}
 
 // What a limb stays below.
 pub const LIMB: u64 = 1 << 40;
@@ -183,19 +198,35 @@ pub fn round_by(q: u64, rest: u64, half: u64, tie_up: bool) -> u64
 // The digits below the 53 leading ones, as a number of units of which 2^27 are a half: 27 digits, and one that is set where any lower digit is.
 fn lower_digits(a: [u64; 4]) -> u64
     requires { ⌜ Reduced a ⌝ }
-    ensures { λ r. ⌜ (compare r (2 ^ 27) ≡ compare (valueOf a % 2 ^ 107 * 2) (2 ^ 107)) × (r < 2 ^ 28) ⌝ }
+    ensures { λ r. ⌜ (compare r (2 ^ 27) ≡ compare (valueOf a % 2 ^ 107 * 2) (2 ^ 107)) × (r < 2 ^ 28) × (compare r 0 ≡ compare (valueOf a % 2 ^ 107) 0) ⌝ }
 {
     let rest = a[2] % (1 << 27) * 2;
     if a[1] + a[0] > 0 { rest + 1 } else { rest }
 }
 
+// The side of n, to which a quotient q with this rest was rounded.
+fn rounding_side(q: u64, rest: u64, n: u64) -> Side
+    ensures { λ r. ⌜ r ≡ roundedSide q rest n ⌝ }
+{
+    if rest == 0 {
+        return Side::Equal;
+    }
+    if n > q { Side::Greater } else { Side::Less }
+}
+
 // The 53 leading digits of the 160, to the nearest number, an exact half to the even one.
-fn leading_digits(a: [u64; 4]) -> u64
+fn leading_digits(a: [u64; 4]) -> Rounding
     requires { ⌜ Reduced a ⌝ }
-    ensures { λ r. ⌜ r ≡ leadingDigits a ⌝ }
+    ensures { λ r. ⌜ r .unsigned ≡ leadingDigits a ⌝ }
+    ensures { λ r. ⌜ r .side ≡ sideOf (pos (leadingDigits a * 2 ^ 107)) (pos (valueOf a)) ⌝ }
 {
     let q = a[3] * 8192 + (a[2] >> 27);
-    round_by(q, lower_digits(a), 1 << 27, q % 2 == 1)
+    let rest = lower_digits(a);
+    let n = round_by(q, rest, 1 << 27, q % 2 == 1);
+    Rounding {
+        unsigned: n,
+        side: rounding_side(q, rest, n),
+    }
 }
 
 // The bits with this exponent field above this significand, whose hidden digit adds one to the field.
@@ -206,20 +237,28 @@ fn assemble(exponent: u64, significand: u64) -> u64
     (exponent << 52) + significand
 }
 
-// The bits, without the sign, of the double nearest to a × 2^e / 2^80 units of 2^-1074.
-pub fn nearest_bits(a: [u64; 4], e: u64) -> u64
+// The bits, without the sign, of the double nearest to a × 2^e / 2^80 units of 2^-1074. A subnormal one drops no digit.
+pub fn nearest_bits(a: [u64; 4], e: u64) -> Rounding
     requires { ⌜ Reduced a ⌝ }
     requires { ⌜ (0 < valueOf a) × (e ≤ mostScale) ⌝ }
     requires { ⌜ unitsOf a e * 2 ^ 80 ≡ valueOf a * 2 ^ e ⌝ }
-    ensures { λ r. ⌜ r ≡ packed (unitsOf a e) ⌝ }
+    ensures { λ r. ⌜ r .unsigned ≡ packed (unitsOf a e) ⌝ }
+    ensures { λ r. ⌜ r .side ≡ packedSide (unitsOf a e) ⌝ }
 {
     let n = normalise(a);
     let by = n.by;
     let limbs = n.limbs;
-    let significand = leading_digits(limbs);
+    let digits = leading_digits(limbs);
     let unshifted = 27 + e;
     if by <= unshifted {
-        return assemble(unshifted - by, significand);
+        let side = digits.side;
+        return Rounding {
+            unsigned: assemble(unshifted - by, digits.unsigned),
+            side,
+        };
     }
-    significand >> (by - unshifted)
+    Rounding {
+        unsigned: digits.unsigned >> (by - unshifted),
+        side: Side::Equal,
+    }
 }

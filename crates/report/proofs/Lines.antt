@@ -26,7 +26,7 @@ use Rattle.finish.proofs.Outcomes.{line-given}
 use Rattle.numerals.specs.Numerals.{decimal}
 use Rattle.numerals.specs.Steps.{Continued}
 use Rattle.numerals.proofs.Texts.{then-ended}
-use Rattle.report.specs.Text.{space, lineFeed, lastFields, lineWith, lineText}
+use Rattle.report.specs.Text.{space, lineFeed, lastFields, lineWith, finishedText, lineText}
 use Rattle.report.specs.Steps.{longestKeyAndCount}
 
 -- ---- a line in the buffer
@@ -40,7 +40,7 @@ line-printed key count last start fields = then-ended last lineFeed start fields
 -- ---- the line of a section
 
 abbrev pub GivesLine : Section → FinishedLine → Type 0
-GivesLine s l = T (finite (l .sum)) × (lineWith (l .key) (l .count) (lastFields (accepted (l .sum)) (accepted (l .figure))) ≡ lineText s)
+GivesLine s l = T (finite (l .sum)) × (finishedText l ≡ lineText s)
 
 pub line-finished : (s : Section) (l : FinishedLine) → accepted l ≡ lineOf (some s) → GivesLine s l
 unfolding lineText

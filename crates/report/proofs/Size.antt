@@ -1,4 +1,4 @@
--- The report of a file is at most 4,096 bytes long: its head line has 29, and each of at most 64 lines at most 58.
+-- The report of a file is at most 4,096 bytes long: its head line has 34, and each of at most 64 lines at most 58.
 use Prim.Native.Nat.{ℕ, _-_, _*_, _^_, _<_, _≤_}
 use mathlib.Core.Path.{_≡_, refl}
 use mathlib.Core.Bool.{false}
@@ -6,6 +6,7 @@ use mathlib.Core.List.{List, [], _∷_, _++_}
 use mathlib.Core.Option.{some}
 use native.Mathlib.Omega.{arith}
 use borrow.Author.Tests.{ltb-false}
+use lib.Dec.{lit≤}
 use lib.IntN.{ℤ, natAbs}
 use lib.Ieee.{Float, binary64, toBits}
 use lib.ListN.{length, drop, length-append}
@@ -20,19 +21,28 @@ use Rattle.patch.proofs.File.{key-column}
 use Rattle.record.specs.Section.{Section}
 use Rattle.table.specs.Calls.{columnGrounds, addGrounds, addSections, addOutcome}
 use Rattle.table.proofs.Bytes.{Storable}
+use Rattle.limbs.specs.declared.Side.{Side}
+use Rattle.limbs.specs.declared.Side.the-variants.{Less, Equal, Greater}
+use Rattle.limbs.specs.Side.{sideNumber}
 use Rattle.finish.specs.Figure.{beyond}
-use Rattle.finish.specs.Finish.{sumFor, figureFor, sumGrounds, figureGrounds, sumOf, figureOf}
-use Rattle.numerals.specs.Numerals.{decimal, integer, hexadecimal}
+use Rattle.finish.specs.Finish.{RoundedSum, sumFor, figureFor, sumGrounds, figureGrounds, sumOf, figureOf}
+use Rattle.numerals.specs.Numerals.{decimalIn, decimal, integer, hexadecimal}
 use Rattle.numerals.specs.Steps.{longestInteger}
 use Rattle.numerals.proofs.Size.{length-decimal, length-integer, length-hexadecimal}
-use Rattle.report.specs.Text.{space, lineFeed, headLine, refusalText, figureField, lastFields, lineWith, lineText, tableBytes, emptyTable, addText, columnsText, fileText, reportText}
-use Rattle.report.specs.Steps.{longestRefusal, longestRefusedFields, longestLine, longestText}
+use Rattle.report.specs.Text.{space, lineFeed, headLine, refusalText, figureFields, lastFields, lineWith, lineText, tableBytes, emptyTable, addText, columnsText, fileText, reportText}
+use Rattle.report.specs.Steps.{longestSide, longestRefusal, longestRefusedFields, longestLine, longestText}
 use Rattle.report.proofs.Whole.{columns-left}
 
 -- ---- one line
 length-figure : (z : ℤ) → beyond z ≡ false → length (integer z) ≤ longestInteger
 unfolding beyond
 length-figure z e = length-integer z (omega (arith, ltb-false 2147483647 (natAbs z) e))
+
+length-side : (d : Side) → length (integer (sideNumber d)) ≤ longestSide
+unfolding integer decimal decimalIn
+length-side Less = lit≤ tt
+length-side Equal = lit≤ tt
+length-side Greater = lit≤ tt
 
 length-refusal : (n : ℕ) → n < 2 ^ 32 → length (refusalText n) ≤ longestRefusal
 unfolding refusalText
@@ -43,7 +53,7 @@ figure-in-range : (s : Section) (z : ℤ) → figureOf (some s) ≡ accepted z �
 figure-in-range s z e = rw (← accepted-value (figureGrounds s) (figureFor s) e) (accepted-not 15 (figureGrounds s) (figureFor s) e)
 
 length-last : (s : Section) → length (lastFields (sumOf (some s)) (figureOf (some s))) ≤ longestRefusedFields
-unfolding lastFields figureField
+unfolding lastFields figureFields
 length-last s = by (sumOf (some s)) (figureOf (some s)) refl refl
   where
     after-bits : (x : Float) (l : List ℕ) → length l ≤ longestRefusal → length (hexadecimal (toBits binary64 x) ++ space ++ l) ≤ longestRefusedFields
@@ -51,10 +61,14 @@ length-last s = by (sumOf (some s)) (figureOf (some s)) refl refl
         let bits-text = hexadecimal (toBits binary64 x) in
         omega (arith, length-append (bits-text ++ space) l, length-append bits-text space, length-hexadecimal (toBits binary64 x))
 
-    by : (o : Outcome Float) (f : Outcome ℤ) → sumOf (some s) ≡ o → figureOf (some s) ≡ f → length (lastFields o f) ≤ longestRefusedFields
+    after-figure : (z : ℤ) (d : Side) → beyond z ≡ false → length (integer z ++ space ++ integer (sideNumber d)) ≤ longestRefusal
+    after-figure z d e =
+        omega (arith, length-append (integer z ++ space) (integer (sideNumber d)), length-append (integer z) space, length-figure z e, length-side d)
+
+    by : (o : Outcome RoundedSum) (f : Outcome ℤ) → sumOf (some s) ≡ o → figureOf (some s) ≡ f → length (lastFields o f) ≤ longestRefusedFields
     by (refused n) f d e = omega (arith, length-refusal n (omega (arith, refused-below 100 (sumGrounds s) (sumFor s) refl d)))
-    by (accepted x) (refused n) d e = after-bits x (refusalText n) (length-refusal n (omega (arith, refused-below 100 (figureGrounds s) (figureFor s) refl e)))
-    by (accepted x) (accepted z) d e = after-bits x (integer z) (omega (arith, length-figure z (figure-in-range s z e)))
+    by (accepted x) (refused n) d e = after-bits (x .sum) (refusalText n) (length-refusal n (omega (arith, refused-below 100 (figureGrounds s) (figureFor s) refl e)))
+    by (accepted x) (accepted z) d e = after-bits (x .sum) (integer z ++ space ++ integer (sideNumber (x .side))) (after-figure z (x .side) (figure-in-range s z e))
 
 length-line : (s : Section) → Storable s → length (lineText s) ≤ longestLine
 unfolding lineText lineWith

@@ -10,15 +10,19 @@ longestRefusal = 8 + longestDecimal
 abbrev pub longestKeyAndCount : ℕ
 longestKeyAndCount = longestDecimal + 1 + longestDecimal + 1
 
--- a line with both last fields
-abbrev pub longestFinishedLine : ℕ
-longestFinishedLine = longestKeyAndCount + longestBits + 1 + longestInteger + 1
+-- a side, its minus sign included
+abbrev pub longestSide : ℕ
+longestSide = 2
 
--- the sum and a refusal in place of the mill figure: no last fields are longer
+-- a line with all fields
+abbrev pub longestFinishedLine : ℕ
+longestFinishedLine = longestKeyAndCount + longestBits + 1 + longestInteger + 1 + longestSide + 1
+
+-- the sum, and a refusal of any number in place of mill figure and side: no last fields need more room
 abbrev pub longestRefusedFields : ℕ
 longestRefusedFields = longestBits + 1 + longestRefusal
 
--- a line with them: no line is longer
+-- a line with them: no line needs more
 abbrev pub longestLine : ℕ
 longestLine = longestKeyAndCount + longestRefusedFields + 1
 

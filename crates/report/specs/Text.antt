@@ -4,14 +4,17 @@ use mathlib.Core.List.{List, [], _∷_, _++_}
 use mathlib.Core.Option.{some}
 use lib.IntN.{ℤ}
 use lib.ListN.{replicate}
-use lib.Ieee.{Float, binary64, toBits}
+use lib.Ieee.{binary64, toBits}
 use Rattle.codec.specs.Cells.{image}
 use Rattle.refusal.specs.Outcome.{Outcome, accepted, refused}
 use Rattle.columns.specs.declared.Kind.{Kind}
 use Rattle.columns.specs.declared.Kind.the-variants.{Double}
 use Rattle.patch.specs.File.{readOutcome, keyColumn, valueColumn}
 use Rattle.record.specs.Section.{Section}
-use Rattle.finish.specs.Finish.{sumOf, figureOf}
+use Rattle.limbs.specs.declared.Side.{Side}
+use Rattle.limbs.specs.Side.{sideNumber}
+use Rattle.finish.specs.declared.FinishedLine.{FinishedLine}
+use Rattle.finish.specs.Finish.{RoundedSum, sumOf, figureOf}
 use Rattle.table.specs.Calls.{addOutcome, addSections}
 use Rattle.numerals.specs.Numerals.{decimal, integer, hexadecimal}
 
@@ -27,31 +30,36 @@ lineFeed = 0x0A ∷ []
 abbrev pub refusedWord : List ℕ
 refusedWord = 0x72 ∷ 0x65 ∷ 0x66 ∷ 0x75 ∷ 0x73 ∷ 0x65 ∷ 0x64 ∷ 0x20 ∷ []
 
--- "section rows bits hundredths" and a line feed
+-- "section rows bits hundredths side" and a line feed
 unfoldable pub headLine : List ℕ
 headLine =
     0x73 ∷ 0x65 ∷ 0x63 ∷ 0x74 ∷ 0x69 ∷ 0x6F ∷ 0x6E ∷ 0x20
     ∷ 0x72 ∷ 0x6F ∷ 0x77 ∷ 0x73 ∷ 0x20
     ∷ 0x62 ∷ 0x69 ∷ 0x74 ∷ 0x73 ∷ 0x20
-    ∷ 0x68 ∷ 0x75 ∷ 0x6E ∷ 0x64 ∷ 0x72 ∷ 0x65 ∷ 0x64 ∷ 0x74 ∷ 0x68 ∷ 0x73 ∷ 0x0A ∷ []
+    ∷ 0x68 ∷ 0x75 ∷ 0x6E ∷ 0x64 ∷ 0x72 ∷ 0x65 ∷ 0x64 ∷ 0x74 ∷ 0x68 ∷ 0x73 ∷ 0x20
+    ∷ 0x73 ∷ 0x69 ∷ 0x64 ∷ 0x65 ∷ 0x0A ∷ []
 
 -- "refused" and a refusal's number
 unfoldable pub refusalText : ℕ → List ℕ
 refusalText n = refusedWord ++ decimal n
 
--- the mill figure, or why there is none
-unfoldable pub figureField : Outcome ℤ → List ℕ
-figureField (accepted z) = integer z
-figureField (refused n) = refusalText n
+-- the mill figure and the sum's side; a figure refused takes the place of both
+unfoldable pub figureFields : Outcome ℤ → Side → List ℕ
+figureFields (accepted z) d = integer z ++ space ++ integer (sideNumber d)
+figureFields (refused n) d = refusalText n
 
--- the sum's 64 bits and the mill figure; a sum refused takes the place of both
-unfoldable pub lastFields : Outcome Float → Outcome ℤ → List ℕ
-lastFields (accepted x) f = hexadecimal (toBits binary64 x) ++ space ++ figureField f
+-- the sum's 64 bits, the mill figure and the side; a sum refused takes the place of all
+unfoldable pub lastFields : Outcome RoundedSum → Outcome ℤ → List ℕ
+lastFields (accepted x) f = hexadecimal (toBits binary64 (x .sum)) ++ space ++ figureFields f (x .side)
 lastFields (refused n) f = refusalText n
 
 -- a line of section, row count and what follows them
 unfoldable pub lineWith : ℕ → ℕ → List ℕ → List ℕ
 lineWith key count fields = decimal key ++ space ++ decimal count ++ space ++ fields ++ lineFeed
+
+-- a finished line
+abbrev pub finishedText : FinishedLine → List ℕ
+finishedText l = lineWith (l .key) (l .count) (lastFields (accepted (record { sum = l .sum; side = l .side })) (accepted (l .figure)))
 
 -- a section's line
 unfoldable pub lineText : Section → List ℕ

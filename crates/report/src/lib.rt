@@ -7,21 +7,23 @@ ghost use lib.Dec.{T};
 ghost use lib.Ieee.{binary64, toBits};
 ghost use lib.Ieee.Scale.{finite};
 ghost use Rattle.codec.specs.Cells.{image};
-ghost use Rattle.refusal.specs.Outcome.{accepted, refused};
+ghost use Rattle.refusal.specs.Outcome.{refused};
 ghost use Rattle.record.specs.Section.{meaning, sections};
 ghost use Rattle.record.specs.Sound.{sound, soundRecord};
 ghost use Rattle.finish.specs.Answer.{sumAnswer};
 ghost use Rattle.finish.specs.Steps.{FiniteSum};
-ghost use Rattle.numerals.specs.Numerals.{decimal, hexadecimal};
+ghost use Rattle.limbs.specs.Side.{sideNumber};
+ghost use Rattle.numerals.specs.Numerals.{decimal, integer, hexadecimal};
 ghost use Rattle.numerals.specs.Steps.{Continued, longestBits};
 ghost use Rattle.columns.specs.declared.Kind.the-variants.{Double};
-ghost use Rattle.report.specs.Text.{tableGroups, space, lineFeed, refusalText, lastFields, lineWith, lineText, headLine, columnsText, reportText};
+ghost use Rattle.report.specs.Text.{tableGroups, space, lineFeed, refusalText, lastFields, lineWith, finishedText, lineText, headLine, columnsText, reportText};
 ghost use Rattle.output.specs.Output.{outputAnswer};
 ghost use Rattle.report.specs.Answer.{printOutcome, printLeaves};
-ghost use Rattle.report.specs.Steps.{longestRefusal, longestKeyAndCount, longestFinishedLine, longestRefusedFields, longestLine, longestText};
+ghost use Rattle.report.specs.Steps.{longestRefusal, longestKeyAndCount, longestSide, longestFinishedLine, longestRefusedFields, longestLine, longestText};
 use finish::FinishedLine;
 use finish::LineAnswer;
 use finish::SectionSum;
+use limbs::Side;
 use output::OutputAnswer;
 use patch::Reading;
 use record::Record;
@@ -52,25 +54,39 @@ fn print_key_and_count(text: &mut [u8], at: usize, key: u32, count: u32) -> usiz
     numerals::print_decimal_field(text, next, count, b' ')
 }
 
+// A sum's side of the kept value and a line feed.
+fn print_side(text: &mut [u8], at: usize, side: Side) -> usize
+    requires { ⌜ at + longestSide + 1 ≤ length (now text) ⌝ }
+    ensures { λ r. ⌜ Continued (now (text .entry)) at (integer (sideNumber side) ++ lineFeed) (longestSide + 1) (now (text .exit)) r ⌝ }
+{
+    match side {
+        Side::Less => numerals::print_bytes(text, at, b"-1\n"),
+        Side::Equal => numerals::print_bytes(text, at, b"0\n"),
+        Side::Greater => numerals::print_bytes(text, at, b"1\n"),
+    }
+}
+
 // A finished line.
 fn print_line(text: &mut [u8], at: usize, line: FinishedLine) -> usize
     requires { ⌜ at + longestFinishedLine ≤ length (now text) ⌝ }
     requires { ⌜ T (finite (line .sum)) ⌝ }
-    ensures { λ r. ⌜ Continued (now (text .entry)) at (lineWith (line .key) (line .count) (lastFields (accepted (line .sum)) (accepted (line .figure)))) longestFinishedLine (now (text .exit)) r ⌝ }
+    ensures { λ r. ⌜ Continued (now (text .entry)) at (finishedText line) longestFinishedLine (now (text .exit)) r ⌝ }
 {
     let a = print_key_and_count(text, at, line.key, line.count);
     let b = numerals::print_bits_field(text, a, f64::to_bits(line.sum), b' ');
-    numerals::print_integer_field(text, b, line.figure, b'\n')
+    let c = numerals::print_integer_field(text, b, line.figure, b' ');
+    let side = line.side;
+    print_side(text, c, side)
 }
 
-// The end of a line that is not finished: the sum and the figure's refusal n, or a refused sum in place of both, and a line feed.
+// The end of a line that is not finished: the sum and the figure's refusal n, or a refused sum in place of both, and a line feed. It has no side.
 fn print_refused_fields(text: &mut [u8], at: usize, sum: SectionSum, n: u32) -> usize
     requires { ⌜ at + longestRefusedFields + 1 ≤ length (now text) ⌝ }
     requires { ⌜ FiniteSum sum ⌝ }
     ensures { λ r. ⌜ Continued (now (text .entry)) at (lastFields (sumAnswer sum) (refused n) ++ lineFeed) (longestRefusedFields + 1) (now (text .exit)) r ⌝ }
 {
     match sum {
-        SectionSum::Finite(x) => {
+        SectionSum::Finite(x, _) => {
             let next = numerals::print_bits_field(text, at, f64::to_bits(x), b' ');
             print_refusal(text, next, n)
         }
@@ -137,7 +153,7 @@ fn print_table(text: &mut [u8], table: &[u8], g: usize) -> usize
     requires { ⌜ T (sound (now table) g) ⌝ }
     ensures { λ r. ⌜ Continued (now (text .entry)) 0 (headLine ++ image lineText (sections (now (table .entry)) g)) longestText (now (text .exit)) r ⌝ }
 {
-    let next = numerals::print_bytes(text, 0, b"section rows bits hundredths\n");
+    let next = numerals::print_bytes(text, 0, b"section rows bits hundredths side\n");
     print_sections(text, next, table, g)
 }
 

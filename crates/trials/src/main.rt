@@ -162,20 +162,23 @@ fn step(t: &mut [u8], g: u64, other: &[u8], h: u64, x: u64, kind: u64) -> u64 {
     groups_after(r, g)
 }
 
-// Section, answer, row count, sum and mill figure; nothing of an absent section below 16.
+// Section, answer, row count and side of the line, sum and its side, mill figure; nothing of an absent section below 16.
 fn print_section(t: &[u8], g: u64, key: u32) {
     let mut count: u64 = 9;
     let mut bits: u64 = 9;
     let mut figure: i64 = 9;
-    let r = exports::girth_line(t, g, key, &mut count, &mut bits, &mut figure);
+    let mut side: i64 = 9;
+    let r = exports::girth_line(t, g, key, &mut count, &mut bits, &mut figure, &mut side);
     if r == -13 && key < 16 {
         return;
     }
     print(key as u64);
     print(word(r));
     print(count);
-    exports::girth_sum(t, g, key, &mut bits);
+    print(word(side));
+    exports::girth_sum(t, g, key, &mut bits, &mut side);
     print(bits);
+    print(word(side));
     exports::girth_figure(t, g, key, &mut figure);
     print(word(figure));
     end_line();

@@ -1,5 +1,5 @@
 //! The calls with a refusal as its bare number, as the exact model gives it.
-pub use girths::{Columns, Line};
+pub use girths::{Columns, Line, Sum};
 
 fn number<T>(r: Result<T, girths::Refusal>) -> Result<T, u32> {
     r.map_err(|e| e.number())
@@ -21,7 +21,7 @@ pub fn merge(first: &mut [u8], g1: u64, second: &[u8], g2: u64) -> Result<u64, u
     number(girths::merge(first, g1, second, g2))
 }
 
-pub fn sum(table: &[u8], g: u64, key: u32) -> Result<u64, u32> {
+pub fn sum(table: &[u8], g: u64, key: u32) -> Result<Sum, u32> {
     number(girths::sum(table, g, key))
 }
 

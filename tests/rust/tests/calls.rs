@@ -108,9 +108,9 @@ fn merge_both(first: &mut Vec<u8>, g1: u64, second: &[u8], g2: u64) -> Result<u6
 
 fn finish_both(table: &[u8], g: u64, key: u32) -> Result<i64, u32> {
     let s = model::find(table, g, key);
-    let sum = s.clone().and_then(|s| s.sum());
+    let sum = s.clone().and_then(|s| Ok(calls::Sum { bits: s.sum()?, side: s.side()? }));
     let figure = s.clone().and_then(|s| s.figure());
-    let line = s.and_then(|s| Ok(calls::Line { count: s.count, bits: s.sum()?, figure: s.figure()? }));
+    let line = s.and_then(|s| Ok(calls::Line { count: s.count, bits: s.sum()?, figure: s.figure()?, side: s.side()? }));
     assert_eq!(calls::sum(table, g, key), sum);
     assert_eq!(calls::figure(table, g, key), figure);
     assert_eq!(calls::line(table, g, key), line);
@@ -190,17 +190,17 @@ fn bench_book() {
     let sum = |rows: &[u64]| {
         let (t, g) = of_values(rows);
         finish_both(&t, g, 7).ok();
-        calls::sum(&t, g, 7)
+        calls::sum(&t, g, 7).map(|s| (s.bits, s.side))
     };
-    assert_eq!(sum(&[0, 1 << 63]), Ok(0));
+    assert_eq!(sum(&[0, 1 << 63]), Ok((0, 0)));
     let (a, b) = (0x3CB0000000000000, 0x3FEFFFFFFFFFFFFF);
     for order in [[a, b, a], [a, a, b], [b, a, a]] {
-        assert_eq!(sum(&order), Ok(0x3FF0000000000002));
+        assert_eq!(sum(&order), Ok((0x3FF0000000000002, 1)));
     }
     let big = 2f64.powi(60);
-    assert_eq!(sum(&[big.to_bits(), 1f64.to_bits(), (-big).to_bits()]), Ok(1f64.to_bits()));
-    assert_eq!(sum(&[big.to_bits(), 2f64.powi(-35).to_bits(), (-big).to_bits()]), Ok(0));
-    assert_eq!(sum(&[0x7FEFFFFFFFFFFFFF]), Ok(0x7FEFFFFFFFFFFFFF));
+    assert_eq!(sum(&[big.to_bits(), 1f64.to_bits(), (-big).to_bits()]), Ok((1f64.to_bits(), 0)));
+    assert_eq!(sum(&[big.to_bits(), 2f64.powi(-35).to_bits(), (-big).to_bits()]), Ok((0, 0)));
+    assert_eq!(sum(&[0x7FEFFFFFFFFFFFFF]), Ok((0x7FEFFFFFFFFFFFFF, 0)));
     assert_eq!(sum(&[0x7FEFFFFFFFFFFFFF; 2]), Err(14));
     let figure = |x: f64| {
         let (t, g) = of_values(&[x.to_bits()]);
@@ -553,6 +553,252 @@ fn distance() {
     }
 }
 
+/// How often a sum, and how often a finished line, of each sign had each of the sides -1, 0 and 1; a sum of bits 0 counts as neither.
+#[derive(Default, Debug)]
+struct Sides {
+    sums: [[u32; 3]; 2],
+    lines: [[u32; 3]; 2],
+    /// Sums that were rounded, of sections whose mill figure does not fit.
+    without_line: u32,
+}
+
+impl Sides {
+    /// The sum of a section and its side, compared with the model.
+    fn finish(&mut self, table: &[u8], g: u64, key: u32) -> Result<(u64, i64), u32> {
+        let figure = finish_both(table, g, key);
+        let s = calls::sum(table, g, key)?;
+        let (sign, side) = ((s.bits >> 63) as usize, (s.side + 1) as usize);
+        if s.bits != 0 {
+            self.sums[sign][side] += 1;
+            self.lines[sign][side] += figure.is_ok() as u32;
+            self.without_line += (figure == Err(15) && s.side != 0) as u32;
+        }
+        Ok((s.bits, s.side))
+    }
+
+    fn of_values(&mut self, rows: &[u64]) -> Result<(u64, i64), u32> {
+        let (t, g) = of_values(rows);
+        self.finish(&t, g, 7)
+    }
+
+    fn assert_all(&self, least: u32) {
+        let all = self.sums.iter().chain(&self.lines).flatten().all(|&n| n >= least);
+        assert!(all && self.without_line >= least, "{self:?}");
+    }
+}
+
+/// A kept value of m * 2^c + d units of 2^(e - 1074), where m has 53 digits and d is below 2^c, or its negative.
+#[derive(Clone, Copy, Debug)]
+struct Near {
+    negative: bool,
+    m: u64,
+    c: usize,
+    d: u128,
+    e: usize,
+}
+
+impl Near {
+    /// At the places around a tie, and at the ends, of significands that are even, odd, and the first and the last of a binade.
+    fn random(r: &mut Random, c: usize, e: usize) -> Near {
+        let m = match r.below(6) {
+            0 => 1 << 52,
+            1 => (1 << 52) + 1,
+            2 => (1 << 53) - 2,
+            3 => (1 << 53) - 1,
+            _ => 1 << 52 | r.next() >> 12,
+        };
+        let (half, end) = (1 << (c - 1), 1 << c);
+        let d = match r.below(8) {
+            0 => 0,
+            1 => 1,
+            2 => half - 1,
+            3 | 4 => half,
+            5 => (half + 1) % end,
+            6 => end - 1,
+            _ => (r.next() as u128 | (r.next() as u128) << 64) % end,
+        };
+        Near { negative: r.chance(2), m, c, d, e }
+    }
+
+    fn is_tie(self) -> bool {
+        2 * self.d == 1 << self.c
+    }
+
+    fn signed(self, k: Big) -> Big {
+        if self.negative { k.minus() } else { k }
+    }
+
+    fn units(self) -> Big {
+        let d = Big::from((self.d >> 64) as i128).shl(64).plus(Big::from(self.d as u64 as i128));
+        self.signed(Big::from(self.m as i128).shl(self.c).plus(d))
+    }
+
+    fn kept(self) -> Big {
+        self.units().shl(self.e)
+    }
+
+    /// The bits of the nearest double and its side, from m, c and d alone.
+    fn sum(self) -> (u64, i64) {
+        let up = 2 * self.d > 1 << self.c || self.is_tie() && self.m % 2 == 1;
+        let bits = (((self.c + self.e) as u64) << 52) + self.m + up as u64;
+        let side = if self.d == 0 { 0 } else if up { 1 } else { -1 };
+        if self.negative { (bits | 1 << 63, -side) } else { (bits, side) }
+    }
+}
+
+/// How often a tie went to either side, by sign, and how often a sum was rounded to the first double of the next binade.
+#[derive(Default, Debug)]
+struct Ties([[u32; 2]; 2], [u32; 2]);
+
+impl Ties {
+    fn count(&mut self, n: Near) {
+        let (bits, side) = n.sum();
+        if n.is_tie() {
+            self.0[n.negative as usize][(side > 0) as usize] += 1;
+        }
+        self.1[n.negative as usize] += (n.m == (1 << 53) - 1 && bits << 12 == 0) as u32;
+    }
+
+    fn assert_all(&self, least: u32) {
+        assert!(self.0.iter().flatten().chain(&self.1).all(|&n| n >= least), "{self:?}");
+    }
+}
+
+/// Rows whose sum lies near a tie, at every place of a double, in several ways to come to the same kept value.
+#[test]
+fn sides_of_rows() {
+    let mut r = Random(10);
+    let (mut seen, mut ties) = (Sides::default(), Ties::default());
+    for turn in 0..20000 {
+        // 26 digits below the significand are kept whatever the top is
+        let c = 1 + r.below(26) as usize;
+        let e = match turn % 4 {
+            0 => r.below(3) as usize,
+            1 => r.below(2045 - c as u64) as usize,
+            _ => 1000 + r.below(46) as usize - c,
+        };
+        let n = Near::random(&mut r, c, e);
+        let double = |x: Big| model::nearest_double(n.signed(x.shl(e)));
+        let (m, d) = (Big::from(n.m as i128).shl(c), Big::from(n.d as i128));
+        let mut rows = match r.below(3) {
+            0 => vec![double(m), double(d)],
+            1 => vec![double(m.plus(Big::power(c))), double(d.less(Big::power(c)))],
+            _ => vec![double(m), double(d), double(m), double(m.minus())],
+        };
+        if r.chance(2) {
+            let x = double(Big::from(r.below(1 << 26) as i128));
+            rows.extend([x, x ^ 1 << 63]);
+        }
+        r.shuffle(&mut rows);
+        assert_eq!(Section::of_rows(&rows).kept(), n.kept(), "{n:?}");
+        assert_eq!(seen.of_values(&rows), Ok(n.sum()), "{n:?}");
+        ties.count(n);
+    }
+    seen.assert_all(100);
+    ties.assert_all(100);
+}
+
+/// Records whose kept value lies near a tie, with up to 97 digits below the significand, and with totals that take from each other.
+#[test]
+fn sides_of_records() {
+    let mut r = Random(11);
+    let (mut seen, mut ties) = (Sides::default(), Ties::default());
+    for turn in 0..20000 {
+        let top = if turn % 2 == 0 { 24 + r.below(4) } else { r.below(53) } as usize;
+        let below = top.min(2);
+        let e = 40 * (top - below);
+        let c = 1 + r.below((17 + 40 * below as u64).min(2044 - e as u64)) as usize;
+        let n = Near::random(&mut r, c, e);
+        let (mut k, mut totals) = (n.units(), [0; 3]);
+        for i in (1..=below).rev() {
+            let rest = k.shr(40);
+            totals[i] = k.less(rest.shl(40)).small();
+            k = rest;
+        }
+        totals[0] = k.small();
+        for i in 1..=below {
+            let q = r.below(1 << 30) as i128 - (1 << 29);
+            totals[i] += q << 40;
+            totals[i - 1] -= q;
+        }
+        let s = Section { count: 4294967295, top: top as u32, totals };
+        assert_eq!(s.kept(), n.kept(), "{n:?}");
+        assert_eq!(seen.finish(&s.bytes(7), 1, 7), Ok(n.sum()), "{n:?}");
+        ties.count(n);
+    }
+    seen.assert_all(20);
+    ties.assert_all(100);
+}
+
+/// Sums at the ends of the doubles, and kept values of 0; each also with all signs turned.
+#[test]
+fn sides_at_the_ends() {
+    let mut seen = Sides::default();
+    let power = |e: i32| if e < -1022 { 1 << (e + 1074) } else { ((e + 1023) as u64) << 52 };
+    let minus = 1 << 63;
+    let most = 0x7FEFFFFFFFFFFFFF;
+    let figure = 21474836.5f64.to_bits();
+    for (rows, sum) in [
+        (vec![1], Ok((1, 0))),
+        (vec![1; 3], Ok((3, 0))),
+        (vec![0xFFFFFFFFFFFFF; 2], Ok((0x1FFFFFFFFFFFFE, 0))),
+        (vec![0xFFFFFFFFFFFFF, 1], Ok((power(-1022), 0))),
+        (vec![power(-1021), 1], Ok((power(-1021), -1))),
+        (vec![power(-1021), 3], Ok((power(-1021) + 2, 1))),
+        (vec![power(-1021), 1 | minus], Ok((power(-1021) - 1, 0))),
+        // a subnormal sum of which levels were dropped
+        (vec![power(-955), power(-1029), 1, power(-955) | minus], Ok((power(-1029), 0))),
+        // nothing is kept, though the rows have another sum
+        (vec![0], Ok((0, 0))),
+        (vec![1, 1 | minus], Ok((0, 0))),
+        (vec![power(60), power(-35), power(60) | minus], Ok((0, 0))),
+        (vec![most, 1, most | minus], Ok((0, 0))),
+        (vec![most], Ok((most, 0))),
+        // the unit of level 50 is 2^926
+        (vec![most, power(926)], Ok((most, -1))),
+        (vec![most, power(926) | minus], Ok((most, 1))),
+        (vec![most, power(969)], Ok((most, -1))),
+        (vec![most, power(970), power(926) | minus], Ok((most, -1))),
+        (vec![most, power(970)], Err(14)),
+        (vec![most, power(970), power(926)], Err(14)),
+        (vec![most - 1, power(970)], Ok((most - 1, -1))),
+        (vec![most - 1, power(970), power(926)], Ok((most, 1))),
+        (vec![figure, power(-30)], Ok((figure, -1))),
+        (vec![figure, power(-30) | minus], Ok((figure, 1))),
+    ] {
+        assert_eq!(seen.of_values(&rows), sum, "{rows:x?}");
+        let turned: Vec<u64> = rows.iter().map(|b| b ^ minus).collect();
+        let other = sum.map(|(bits, side)| (if bits == 0 { 0 } else { bits | minus }, -side));
+        assert_eq!(seen.of_values(&turned), other, "{turned:x?}");
+    }
+    seen.assert_all(1);
+}
+
+/// Random rows, of any size and of lengths that a mill has; of each sign every side occurs. A subnormal sum has side 0.
+#[test]
+fn sides_of_any_rows() {
+    let mut r = Random(12);
+    let (mut seen, mut subnormal) = (Sides::default(), [0; 2]);
+    for turn in 0..6000 {
+        let n = 1 + r.below(40) as usize;
+        let rows = match turn % 4 {
+            0 => r.rows(n),
+            1 => (0..n).map(|_| r.next() >> (13 + r.below(51)) | r.below(2) << 63).collect(),
+            2 => (0..n).map(|_| (r.below(60000) as f64 / 10.0 - 3000.0).to_bits()).collect(),
+            _ => (0..n).map(|_| ((r.next() >> 11) as f64 / (1u64 << 41) as f64 - 2048.0).to_bits()).collect::<Vec<u64>>(),
+        };
+        let sum = seen.of_values(&rows);
+        if let Ok((bits, side)) = sum {
+            if bits >> 52 & 2047 == 0 && bits << 1 != 0 {
+                assert_eq!(side, 0);
+                subnormal[(bits >> 63) as usize] += 1;
+            }
+        }
+    }
+    seen.assert_all(50);
+    assert!(subnormal.iter().all(|&n| n > 300), "{subnormal:?}");
+}
+
 fn report_both(file: &[u8], room: usize) -> String {
     let expected = model::report(file);
     let before: Vec<u8> = (0..room).map(|i| i as u8).collect();
@@ -570,6 +816,8 @@ fn report_both(file: &[u8], room: usize) -> String {
 #[test]
 fn reports() {
     let mut r = Random(6);
+    // lines by the sign of their sum, 2 for none, and their last word, which is the side or the refusal's number
+    let mut seen: BTreeMap<(u64, String), u32> = BTreeMap::new();
     for _ in 0..1500 {
         let n = r.below(90) as usize;
         let span = [1, 5, 64, 70, 1 << 32][r.below(5) as usize];
@@ -586,8 +834,29 @@ fn reports() {
             f[at] ^= 1;
         }
         let room = if r.chance(2) { 4096 } else { r.below(3000) as usize };
-        report_both(&f, room);
+        let text = report_both(&f, room);
+        if room == 4096 {
+            for line in text.lines().skip(1) {
+                let words: Vec<&str> = line.split(' ').collect();
+                let sign = u64::from_str_radix(words[2], 16).map_or(2, |bits| bits >> 63);
+                *seen.entry((sign, words.last().unwrap().to_string())).or_default() += 1;
+            }
+        }
     }
+    for (sign, last) in [(0, "-1"), (0, "0"), (0, "1"), (0, "15"), (1, "-1"), (1, "0"), (1, "1"), (1, "15"), (2, "14")] {
+        assert!(seen.get(&(sign, last.to_string())).is_some_and(|&n| n > 10), "{sign} {last}: {seen:?}");
+    }
+}
+
+/// The longest lines that a file can have, and 64 of them.
+#[test]
+fn longest_report() {
+    let rows = [(-21474836.47f64).to_bits(), 2f64.powi(-30).to_bits()];
+    let lines: Vec<(u32, u64)> = (0..64).flat_map(|i| (0..85).map(move |j| (u32::MAX - 63 + i, if j < 2 { rows[j] } else { 0 }))).collect();
+    let (k, v) = columns(&lines);
+    let text = report_both(&file(&[], &k, &[], &v, &[], false), 4096);
+    assert!(text.lines().skip(1).all(|l| l.starts_with("42949672") && l.ends_with(" 85 C1747AE147851EB8 -2147483647 -1")), "{text}");
+    assert_eq!(text.len(), 34 + 64 * 46);
 }
 
 /// Each file of samples/: its name tells the refusal, and its report stands beside it.
@@ -627,7 +896,7 @@ fn made_files() {
     };
     let (good, data) = make("# two sections\n1 1.0\n2 0.125\n\n1 0.5\n");
     assert!(good && read_both(&data) == Ok(3) && rewritten(&data) == data);
-    assert_eq!(report_both(&data, 4096), "section rows bits hundredths\n1 2 3FF8000000000000 150\n2 1 3FC0000000000000 13\n");
+    assert_eq!(report_both(&data, 4096), "section rows bits hundredths side\n1 2 3FF8000000000000 150 0\n2 1 3FC0000000000000 13 0\n");
     let most: String = (0..5460).map(|i| format!("{} {}.25\n", i % 64, i)).collect();
     let (good, data) = make(&most);
     assert!(good && read_both(&data) == Ok(5460) && rewritten(&data) == data);

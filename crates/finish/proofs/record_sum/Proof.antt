@@ -1,5 +1,5 @@
 -- The distance of the raised totals from their raises is the size of the kept value with its sign; its bits are the sum's.
-use mathlib.Core.Path.{_≡_, sym, ap, _∙_}
+use mathlib.Core.Path.{_≡_, sym, ap, ap₂, _∙_}
 use mathlib.Core.Bool.{Bool, not}
 use native.Mathlib.Omega.{arith}
 use Prim.Native.Nat.{ℕ, _*_, _^_, _<_}
@@ -10,7 +10,9 @@ use lib.Signed.{nonNeg}
 use Rattle.record.specs.Section.{kept, meaning}
 use Rattle.record.proofs.Parts.{sound-record-parts, total-range}
 use Rattle.limbs.specs.Limbs.{valueOf}
+use Rattle.limbs.specs.declared.Side.{Side}
 use Rattle.limbs.specs.Packed.{packed}
+use Rattle.limbs.specs.Side.{packedSide}
 use Rattle.finish.specs.Steps.{sumOfBits}
 use Rattle.finish.proofs.Whole.{kept-size, units-exact, no-sign, no-size}
 use Rattle.finish.proofs.Sums.{sum-of-kept, sum-of-zero}
@@ -64,10 +66,12 @@ returns-2 : tie.Need-returns-2
 returns-2 c =
     let d = c .before .before .before .before .before .before in
     let k = sized d in
-    let e : c .sum-of-bits .result ≡ sumOfBits (c .before .nearest-bits .result) (d .signed-difference .result .negative) = c .sum-of-bits .ensures in
+    let n = c .before .nearest-bits in
+    let u = units-exact (natAbs (kept-here d)) (valueOf (d .signed-difference .result .limbs)) _ (k .0) in
+    let e : c .sum-of-bits .result ≡ sumOfBits (n .result .unsigned) (d .signed-difference .result .negative) (n .result .side) = c .sum-of-bits .ensures in
     e
-    ∙ ap (λ (b : ℕ). sumOfBits b (d .signed-difference .result .negative)) (c .before .nearest-bits .ensures ∙ ap packed (units-exact (natAbs (kept-here d)) (valueOf (d .signed-difference .result .limbs)) _ (k .0)))
-    ∙ ap (λ (s : Bool). sumOfBits (packed (natAbs (kept-here d))) s) (sym (k .1))
+    ∙ ap₂ (λ (b : ℕ) (w : Side). sumOfBits b (d .signed-difference .result .negative) w) (n .ensures .0 ∙ ap packed u) (n .ensures .1 ∙ ap packedSide u)
+    ∙ ap (λ (s : Bool). sumOfBits (packed (natAbs (kept-here d))) s (packedSide (natAbs (kept-here d)))) (sym (k .1))
     ∙ sum-of-kept (kept-here d)
 
 pub record-sum-spec : {M : Type 1} → statement M

@@ -5,17 +5,18 @@ use mir.Syntax.{w32}
 use mir.Val.{SFits}
 use mir.ValLaws.{toZ-ofZ}
 use Rattle.finish.proofs.Fraction.{not-nan}
+use Rattle.limbs.specs.Side.{sideNumber}
 use Rattle.numerals.specs.Numerals.{decimal, integer}
 use Rattle.numerals.specs.Steps.{Continued}
 use Rattle.numerals.proofs.Texts.{then-ended}
-use Rattle.report.specs.Text.{space, lineFeed, lastFields, figureField}
+use Rattle.report.specs.Text.{space, lineFeed, lastFields, figureFields}
 use Rattle.report.specs.Steps.{longestKeyAndCount}
 use Rattle.report.proofs.Lines.{line-printed}
 use borrow.Author.Needs.{needs}
 use Rattle.report.proofs.print_line.Statement.{statement}
 use Rattle.report.proofs.print_line.Tie as tie
 
--- where the last field was printed
+-- where the mill figure was printed
 module _ (c : tie.After-print-integer-field) where
   abbrev sum-printed : tie.After-print-bits-field
   sum-printed = c .before .before .before .before .before
@@ -39,14 +40,17 @@ float-to-bits-print-bits-field : tie.Need-float-to-bits-print-bits-field
 float-to-bits-print-bits-field c = let s = c .before .before .before .before .before .before .before in not-nan (s .args .line .sum) (s .pre .1)
 
 returns : tie.Need-returns
-unfolding lastFields figureField
+unfolding lastFields figureFields
 returns c =
-    let d = c .before .before in
-    let last = rw (toZ-ofZ w32 (figure d) (figure-fits d)) at (d .print-integer-field .ensures) in
-    line-printed _ _ _ (numbers-printed d) (then-ended (integer (figure d)) lineFeed (sum-printed d .print-bits-field .ensures) last)
+    let p = c .before .before in
+    let d = p .before .before .before .before in
+    let side-text = integer (sideNumber (start d .args .line .side)) in
+    let figure-printed = rw (toZ-ofZ w32 (figure d) (figure-fits d)) at (d .print-integer-field .ensures) in
+    let last = then-ended side-text lineFeed figure-printed (p .print-side .ensures) in
+    line-printed _ _ _ (numbers-printed d) (then-ended (integer (figure d) ++ space ++ side-text) lineFeed (sum-printed d .print-bits-field .ensures) last)
 
 pub print-line-spec : {M : Type 1} → statement M
 print-line-spec =
     tie.close
-    (tie.spec (λ c κs. search needs) float-to-bits-print-bits-field (λ c κs. search needs) (λ c κs. search needs) (λ c. search needs)
-    returns)
+    (tie.spec (λ c κs. search needs) float-to-bits-print-bits-field (λ c κs. search needs) (λ c κs. search needs) (λ c κs. search needs)
+    (λ c. search needs) returns)

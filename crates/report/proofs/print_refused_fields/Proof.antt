@@ -7,7 +7,7 @@ use Rattle.finish.specs.Steps.{FiniteSum}
 use Rattle.finish.proofs.Fraction.{not-nan}
 use Rattle.numerals.specs.Steps.{Continued}
 use Rattle.numerals.proofs.Texts.{then-ended, longer}
-use Rattle.report.specs.Text.{lineFeed, refusalText, lastFields, figureField}
+use Rattle.report.specs.Text.{lineFeed, refusalText, lastFields, figureFields}
 use Rattle.report.specs.Steps.{longestRefusal}
 use borrow.Author.Needs.{needs}
 use Rattle.report.proofs.print_refused_fields.Statement.{statement}
@@ -27,7 +27,7 @@ float-to-bits-print-bits-field c =
     not-nan (x .0 .0) (subst FiniteSum (x .1) (c .before .before .before .before .before .pre .1))
 
 returns : tie.Need-returns
-unfolding lastFields figureField
+unfolding lastFields figureFields
 returns c =
     let d = c .before .before in
     let p = sum-printed d in
