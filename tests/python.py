@@ -79,7 +79,9 @@ def report_by_calls(file):
         assert not any(work)
     except girths.Refused as e:
         return f'refused {e.number}\n'
-    return HEAD + ''.join(record_line(table, g, key) for key in keys_of(table, g))
+    keys = [key for key, in struct.iter_unpack('<I', columns.keys)]
+    assert girths.totals(table, g) == (len(set(keys)), len(keys))
+    return HEAD + ''.join(record_line(table, g, key) for key in keys_of(table, g)) + f'total {len(set(keys))} {len(keys)}\n'
 
 
 def test_example():
@@ -183,6 +185,8 @@ def test_refusals():
     refused(14, girths.sum, *table_of([(1, 1.7976931348623157e308)] * 2), 1)
     refused(15, girths.line, *table_of([(1, 21474836.5)]), 1)
     refused(7, girths.merge, full, g, b'', 1)
+    refused(7, girths.totals, full, g + 1)
+    refused(7, girths.totals, b'', 1)
 
 
 def kept(record):
@@ -224,9 +228,57 @@ def test_zeros_of_refused_calls():
         for name, kinds in ('girth_sum', 'Qq'), ('girth_line', 'QQqq'):
             if (name, number) == ('girth_sum', 15):
                 continue
-            outs = [{'Q': ctypes.c_uint64, 'q': ctypes.c_int64}[kind](9) for kind in kinds]
-            answer = getattr(girths._library(), name)(*girths._Lent('', table).words, g, key, *map(ctypes.byref, outs))
-            assert (answer, {out.value for out in outs}) == (-number, {0}), (name, number, outs)
+            assert given(name, kinds, table, g, key) == (-number, [0] * len(kinds)), (name, number)
+    assert given('girth_totals', 'QQ', rounded[0], 65) == (-7, [0, 0])
+
+
+def given(name, kinds, table, *words):
+    """The answer of a call on a table, and the numbers that it gives by pointers, each of them 9 before."""
+    outs = [{'Q': ctypes.c_uint64, 'q': ctypes.c_int64}[kind](9) for kind in kinds]
+    answer = getattr(girths._library(), name)(*girths._Lent('', table).words, *words, *map(ctypes.byref, outs))
+    return answer, [out.value for out in outs]
+
+
+def test_totals():
+    """After adds and merges in any order the totals are those of the rows; a refused call brings none."""
+    r, refusals = random.Random(4), Counter()
+    for _ in range(200):
+        tables = [(bytearray(r.randbytes(64 * r.randrange(1, 9) + r.randrange(64))), 0, []) for _ in range(3)]
+        for _ in range(12):
+            i = r.randrange(3)
+            table, g, held = tables[i]
+            second, g2, brought = tables[i - r.randrange(1, 3)]
+            rows = [(r.randrange(7), r.choice((1.5, -0.1, 2.0 ** 900, float('inf') if r.random() < 0.1 else 0.0))) for _ in range(r.randrange(6))]
+            try:
+                if r.random() < 0.5:
+                    tables[i] = table, girths.add(table, g, *pack(rows)), held + rows
+                else:
+                    tables[i] = table, girths.merge(table, g, second, g2), held + brought
+            except girths.Refused as e:
+                refusals[e.number] += 1
+            for table, g, held in tables:
+                before = bytes(table)
+                found = girths.totals(table, g)
+                assert type(found) is girths.Totals and found == (len({key for key, _ in held}), len(held))
+                assert table == before
+    assert set(refusals) == {10, 12} and min(refusals.values()) > 20, refusals
+
+
+def test_totals_of_lent_tables():
+    full = b''.join(struct.pack('<II', key, 4294967295) + bytes(56) for key in range(1024))
+    for g, rows in (0, 0), (1, 4294967295), (1023, 4393751542785), (1024, 4398046510080):
+        assert girths.totals(full[:64 * g], g) == girths.totals(bytearray(full + full), g) == (g, rows)
+    refused(7, girths.totals, full + full, 1025)
+    refused(7, girths.totals, full[:-1], 1024)
+    refused(7, girths.totals, full, 2 ** 32 + 1)
+    refused(7, girths.totals, full, 2 ** 64 - 1)
+    # a key that does not rise, a row count of 0, a top of 53, a zero field, a residue, a level's total, and a level below 0
+    for at, changed in (0, bytes(4)), (4, bytes(4)), (8, b'\x35'), (12, b'\1'), (16, struct.pack('<Qq', 2 ** 50, -1)), (24, struct.pack('<q', 2 ** 22)), (32, b'\1'):
+        for record in 1, 500, 1023:
+            table = bytearray(full)
+            table[64 * record + at:64 * record + at + len(changed)] = changed
+            refused(7, girths.totals, table, 1024)
+            assert girths.totals(table, record) == (record, record * 4294967295)
 
 
 def test_same_words_in_rust():
@@ -267,6 +319,10 @@ def test_checks_of_arguments():
     raises(ValueError, girths.sum, t, 0, 2 ** 32)
     raises(ValueError, girths.figure, t, 0, -1)
     raises(TypeError, girths.line, t, 0, '1')
+    raises(TypeError, girths.totals, 'text', 0)
+    raises(TypeError, girths.totals, t, True)
+    raises(ValueError, girths.totals, t, -1)
+    raises(ValueError, girths.totals, t, 2 ** 64)
     raises(TypeError, girths.merge, bytes(64), 0, b'', 0)
     raises(ValueError, girths.merge, t, 0, t, 0)
     raises(ValueError, girths.add, t, 0, b'', b'', t)

@@ -105,9 +105,20 @@ def difference(a, b, differ=None):
     return lines
 
 
+def with_total(text):
+    """A head line and lines of sections, with the total below them."""
+    rows = [int(line.split(' ')[1]) for line in text.splitlines()[1:]]
+    return text + f'total {len(rows)} {sum(rows)}\n'
+
+
+def without_total(report):
+    """The same report as it was before there were totals."""
+    return ''.join(line + '\n' for line in report.splitlines() if not line.startswith('total'))
+
+
 def without_sides(report):
-    """The same report with the head line and the fields that it has without sides."""
-    lines = [line.split(' ') for line in report.splitlines()]
+    """The same report as it was before there were sides: with their head line and fields, and without a total."""
+    lines = [line.split(' ') for line in without_total(report).splitlines()]
     return ''.join(' '.join(words if 'refused' in words else words[:-1]) + '\n' for words in lines)
 
 
@@ -123,8 +134,8 @@ def test_compare_words():
     base = HEAD + '1 2 3FF8000000000000 150 0\n2 1 3FC0000000000000 13 1\n'
     def doctored(old, new):
         assert base.count(old) == 1
-        return difference(base, base.replace(old, new))
-    assert doctored('1 2 ', '1 3 ') == ['section 1: 2 rows in A, 3 in B']
+        return difference(with_total(base), with_total(base.replace(old, new)))
+    assert doctored('1 2 ', '1 3 ') == ['section 1: 2 rows in A, 3 in B', 'total: 3 rows in A, 4 in B']
     assert doctored('00 150', '01 150') == [
         'section 1: sum 3FF8000000000000 (1.5 mm, not rounded) in A, 3FF8000000000001 (1.5000000000000002 mm, not rounded) in B, neighbouring doubles']
     assert doctored('00 150', '03 150')[0].endswith(', 3 doubles apart')
@@ -140,16 +151,22 @@ def test_compare_words():
     assert doctored('00 13 1', '01 refused 15') == [
         'section 2: sum 3FC0000000000000 (0.125 mm, rounded up) in A, 3FC0000000000001 (0.12500000000000003 mm) in B, neighbouring doubles; '
         'mill figure 13 hundredths in A, refused 15 in B']
-    assert doctored('1 2 3FF8000000000000 150 0\n', '') == ['section 1: only in A, with 2 rows']
+    assert doctored('1 2 3FF8000000000000 150 0\n', '') == ['section 1: only in A, with 2 rows', 'total: 2 sections in A, 1 in B; 3 rows in A, 1 in B']
     assert doctored('2 1 3FC', '3 1 3FC') == ['section 2: only in A, with 1 row', 'section 3: only in B, with 1 row']
+    assert doctored('13 1\n', '13 1\n3 1 0000000000000000 0 0\n') == ['section 3: only in B, with 1 row', 'total: 2 sections in A, 3 in B; 3 rows in A, 4 in B']
+    assert doctored('1 2 3FF8000000000000 150 0\n2 1 ', '2 3 ')[-1] == 'total: 2 sections in A, 1 in B'
     assert difference('refused 3\n', 'refused 4\n') == ['A is a refused file: refused 3', 'B is a refused file: refused 4']
-    assert difference(HEAD, 'refused 3\n') == ['B is a refused file: refused 3']
-    zeros = HEAD + '1 1 {} 0 0\n'
+    assert difference(with_total(HEAD), 'refused 3\n') == ['B is a refused file: refused 3']
+    assert difference(with_total(HEAD), with_total(base))[-1] == 'total: 0 sections in A, 2 in B; 0 rows in A, 3 in B'
+    zeros = with_total(HEAD + '1 1 {} 0 0\n')
     assert difference(zeros.format('0000000000000000'), zeros.format('8000000000000000')) != []
 
 
+NO_TOTAL = 'has no total: it is from an earlier season, or its end was cut off'
+
+
 def test_compare_without_sides():
-    """A report of an earlier season has four fields: it is compared in these, and the last line says so."""
+    """A report of an earlier season has four fields and no total: it is compared in what it has, and the last lines say so."""
     for path in SAMPLES.glob('*.report'):
         text = path.read_text()
         former = without_sides(text)
@@ -157,17 +174,68 @@ def test_compare_without_sides():
         if text.startswith('refused'):
             assert former == text
             continue
-        assert difference(former, text, False)[1:] == ['A has no sides, which are not compared'], path
-        assert difference(text, former, False)[1:] == ['B has no sides, which are not compared'], path
+        assert difference(former, text, False)[1:] == ['A has no sides, which are not compared', 'A ' + NO_TOTAL], path
+        assert difference(text, former, False)[1:] == ['B has no sides, which are not compared', 'B ' + NO_TOTAL], path
+        assert difference(former, without_total(text), False)[1:] == ['A has no sides, which are not compared'], path
     base = HEAD + '1 2 3FF8000000000000 150 1\n2 1 refused 14\n3 1 41747AE148000000 refused 15\n'
     former = without_sides(base)
     assert former == FORMER_HEAD + '1 2 3FF8000000000000 150\n2 1 refused 14\n3 1 41747AE148000000 refused 15\n'
     assert difference(former, base.replace('00 150', '01 150')) == [
         'section 1: sum 3FF8000000000000 (1.5 mm) in A, 3FF8000000000001 (1.5000000000000002 mm, rounded up) in B, neighbouring doubles',
         'A has no sides, which are not compared']
+    assert difference(with_total(former), with_total(base), False)[1:] == ['A has no sides, which are not compared']
     assert difference(former, former.replace('00 150', '01 150')) == [
         'section 1: sum 3FF8000000000000 (1.5 mm) in A, 3FF8000000000001 (1.5000000000000002 mm) in B, neighbouring doubles']
     assert difference(FORMER_HEAD, 'refused 3\n') == ['B is a refused file: refused 3']
+
+
+def test_compare_without_total():
+    """Where one report has no total, the last line says so; no total is a difference only beside another."""
+    for path in SAMPLES.glob('*.report'):
+        text = path.read_text()
+        former = without_total(text)
+        assert difference(former, former) == difference(text, text)
+        if text.startswith('refused'):
+            assert former == text
+            continue
+        assert difference(former, text, False)[1:] == ['A ' + NO_TOTAL] and difference(text, former, False)[1:] == ['B ' + NO_TOTAL], path
+    base = HEAD + '1 2 3FF8000000000000 150 0\n2 1 3FC0000000000000 13 1\n'
+    cut = HEAD + '1 2 3FF8000000000000 150 0\n'
+    assert difference(with_total(base), cut) == ['section 2: only in A, with 1 row', 'B ' + NO_TOTAL]
+    assert difference(base, cut) == ['section 2: only in A, with 1 row']
+    assert difference('refused 3\n', base)[-1] == difference('refused 3\n', with_total(base))[-1] == 'section 2: only in B, with 1 row'
+
+
+def test_bad_totals():
+    """Totals that girths does not print, or that are not those of the lines above them."""
+    lines = ['1 2 3FF8000000000000 150 0', '2 1 refused 14', '5 4 41747AE148000000 refused 15']
+    form, follows, other = '`total` and two numbers', 'something follows the total', 'the report was cut or changed'
+    good, none = [*lines, 'total 3 7'], ['total 0 0']
+    bad = [
+        ([*lines, 'total'], form), ([*lines, 'total 3'], form), ([*lines, 'total 3 '], form), ([*lines, 'total  3 7'], form), ([*lines, 'total 3  7'], form),
+        ([*lines, 'total 3 7 '], form), ([*lines, 'total 3 7 0'], form), ([*lines, 'total 03 7'], form), ([*lines, 'total 3 07'], form), ([*lines, 'total 3 -7'], form),
+        ([*lines, 'total +3 7'], form), ([*lines, 'total 3\t7'], form), ([*lines, 'total: 3 7'], form), ([*lines, 'total 3 ' + 5000 * '7'], form),
+        (['total 00 0'], form), (['total 0'], form), ([*lines, 'total refused 14'], form), ([*lines, 'totals 3 7'], form),
+        ([*lines, 'Total 3 7'], "'Total' is not what the field section holds"), ([*lines, ' total 3 7'], "'' is not what the field section holds"),
+        ([*good, 'total 3 7'], follows), ([*good, '6 1 0000000000000000 0 0'], follows), ([*good, ''], follows), ([*none, *lines], follows), ([*none, 'total 0 0'], follows),
+        (['total 3 7', *lines], follows), ([*lines[:2], 'total 3 7', lines[2]], follows),
+        ([*lines, 'total 3 8'], 'the total says 8 rows, and the lines above it have 7: ' + other),
+        ([*lines, 'total 4 7'], 'the total says 4 sections, and the lines above it have 3: ' + other),
+        ([*lines, 'total 3 1'], 'the total says 1 row, and the lines above it have 7: ' + other), ([*lines, 'total 7 3'], other), ([*lines, 'total 0 0'], other),
+        (['total 0 1'], other), (['total 1 0'], other), ([*lines[1:], 'total 3 7'], other), ([*lines[:2], 'total 3 7'], other), ([lines[0], lines[2], 'total 2 7'], other),
+        ([lines[0].replace('1 2', '1 3'), *lines[1:], 'total 3 7'], other), ([*lines, 'total 3 4294967303'], other),
+    ]
+    with tempfile.TemporaryDirectory() as folder:
+        def report(lines):
+            return written(folder, 'report', HEAD + ''.join(line + '\n' for line in lines))
+        for damaged, words in bad:
+            fails(2, words, 'compare', report(damaged), 'negative.report', also='report, line ')
+            fails(1, words, 'plot', report(damaged), also='report, line ')
+        for whole in good, none:
+            assert run('compare', report(whole), report(whole))[0] == run('plot', report(whole))[0] == 0
+        fails(2, 'something follows the refusal of the file', 'compare', written(folder, 'refused', 'refused 3\ntotal 0 0\n'), 'negative.report')
+        fails(2, 'it does not end with a line feed', 'compare', written(folder, 'cut', HEAD + '\n'.join(good)), 'negative.report')
+        fails(2, 'is not a report', 'compare', written(folder, 'only', 'total 0 0\n'), 'negative.report')
 
 
 BAD = {
@@ -235,7 +303,7 @@ def full(change):
     """A report of 64 sections, with some lines changed."""
     rows = {k: f'{k} {k % 9 + 1} {struct.pack(">d", 200 + k / 4).hex().upper()} {20000 + 25 * k} 0' for k in range(1, 65)}
     rows.update(change)
-    return HEAD + ''.join(line + '\n' for _, line in sorted(rows.items()) if line)
+    return with_total(HEAD + ''.join(line + '\n' for _, line in sorted(rows.items()) if line))
 
 
 CHANGES = {
@@ -282,7 +350,7 @@ def test_plot_without_sides():
 def test_plot_samples():
     for path in sorted(SAMPLES.glob('*.report')):
         svg, texts = drawn(path.name)
-        sections = [line.split() for line in path.read_text().splitlines()[1:]]
+        sections = [line.split() for line in without_total(path.read_text()).splitlines()[1:]]
         assert [t for t in texts if t in {s[0] for s in sections}] != [] or not sections
         assert len(bars(svg)) == sum('refused' not in s for s in sections)
     names = ['two-sections.report', 'both-zeros.report', 'refused-14-sum.report', 'refused-3-no-mark.report', 'negative.report', '-']

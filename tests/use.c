@@ -1,5 +1,5 @@
-/* A C program over the exported calls: the report of a file by way of girth_report, and again from read, add and line; sums of every side; then
- * the file written from its two columns, and what girth_write refuses. */
+/* A C program over the exported calls: the report of a file by way of girth_report, and again from read, add, line and totals; sums of every side;
+ * totals of tables that no rows made; then the file written from its two columns, and what girth_write refuses. */
 #include "girths.h"
 #include <inttypes.h>
 #include <stdio.h>
@@ -49,6 +49,33 @@ static int finishes(void) {
         if (!gives_line(1, 8, -13, 0, 0, 0, 0) || !gives_line(2, 7, -7, 0, 0, 0, 0)) return 0;
     }
     return 1;
+}
+
+/* What girth_totals gives of the first bytes of the table lent, which it only reads. Before a call each number that it gives is 9. */
+static uint8_t lent[64 * 1026], before[sizeof lent];
+
+static int gives_totals(size_t length, uint64_t g, int64_t answer, uint64_t sections, uint64_t rows) {
+    uint64_t s = 9, r = 9;
+    memcpy(before, lent, sizeof lent);
+    return girth_totals(lent, length, g, &s, &r) == answer && s == sections && r == rows && memcmp(before, lent, sizeof lent) == 0;
+}
+
+/* As many records as there may be, with as many rows as they may have; then the last one not sound. */
+static int counts(void) {
+    for (uint32_t i = 0; i < sizeof lent / 64; i++) {
+        const uint32_t fields[] = {i, 4294967295, 0, 0};
+        memcpy(lent + 64 * i, fields, sizeof fields);
+    }
+    static const struct { size_t length; uint64_t g; int64_t answer; uint64_t sections, rows; } tables[] = {
+        {0, 0, 0, 0, 0}, {sizeof lent, 0, 0, 0, 0}, {64, 1, 0, 1, 4294967295}, {sizeof lent, 2, 0, 2, 8589934590},
+        {64 * 1024, 1024, 0, 1024, 4398046510080}, {sizeof lent, 1024, 0, 1024, 4398046510080}, {sizeof lent, 1023, 0, 1023, 4393751542785},
+        {63, 1, -7, 0, 0}, {64 * 1024 - 1, 1024, -7, 0, 0}, {sizeof lent, 1025, -7, 0, 0}, {64, ((uint64_t)1 << 32) + 1, -7, 0, 0}, {0, UINT64_MAX, -7, 0, 0},
+    };
+    for (size_t i = 0; i < sizeof tables / sizeof *tables; i++) {
+        if (!gives_totals(tables[i].length, tables[i].g, tables[i].answer, tables[i].sections, tables[i].rows)) return 0;
+    }
+    lent[64 * 1023 + 12] = 1;
+    return gives_totals(sizeof lent, 1024, -7, 0, 0) && gives_totals(sizeof lent, 1023, 0, 1023, 4393751542785);
 }
 
 /* A call of girth_write on an output of which every byte is 0xA5. */
@@ -142,6 +169,9 @@ int main(int argc, char **argv) {
         if (girth_figure(table, sizeof table, (uint64_t)g, key, &same) != 0 || same != figure) return 8;
         at += sprintf(again + at, "%" PRIu32 " %" PRIu64 " %016" PRIX64 " %" PRId64 " %" PRId64 "\n", key, count, bits, figure, side);
     }
+    uint64_t sections, all;
+    if (girth_totals(table, sizeof table, (uint64_t)g, &sections, &all) != 0 || sections != (uint64_t)g || all != (uint64_t)rows) return 15;
+    at += sprintf(again + at, "total %" PRIu64 " %" PRIu64 "\n", sections, all);
     if (at != n || memcmp(again, text, (size_t)n) != 0) return 9;
 
     for (size_t i = 0; i < sizeof columns; i++) columns[i] = (uint8_t)(37 * i + 11);
@@ -151,6 +181,7 @@ int main(int argc, char **argv) {
     if (!writes(columns, columns, MOST, LONGEST) || !writes(columns, columns, 0, sizeof out)) return 12;
     if (!rewrites(file + keys, file + values, (uint32_t)rows, n)) return 13;
     if (!finishes()) return 14;
+    if (!counts()) return 16;
     fwrite(text, 1, (size_t)n, stdout);
     return 0;
 }

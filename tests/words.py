@@ -27,12 +27,14 @@ ONE = {
     "FigureAnswer": "a mill figure's answer: the enum, and what it says as an outcome",
     "LineAnswer": "a finished line's answer: the enum, and what it says as an outcome",
     "TableAnswer": "an add's or a merge's answer: the enum, and what it says as an outcome",
+    "TotalsAnswer": "the totals' answer: the enum, and what it says as an outcome",
     "OutputAnswer": "the answer of a call that is lent a buffer for its output: the enum, and what it says as an outcome",
     "add": "the call that adds two columns, and its entry in a list of calls",
     "merge": "the call that merges two tables, and its entry in a list of calls",
     "sum": "a section's sum: the call, its question, its field in a line, its entry in the bench book, a double or the answer that has it",
     "figure": "a section's mill figure: the call, its question, its field in a line, the case that carries it",
     "line": "a section's finished line: the call, its question, the case that carries it",
+    "totals": "how many sections and rows a table has: the call, its question, the case that carries them, the numbers to be printed",
     "side": "which side of the value that was rounded a number is on: the enum and its fields, Card 2's definition, the number written out and its clause",
     "write": "puts bytes into a lent buffer: a number's, or a patch file",
     "look_up": "the record of a section: the function, and the enum of what it finds",
@@ -58,7 +60,8 @@ ONE = {
     "RowCount": "the row count of a file, and the answer that has it",
     "columns_fit": "some row count fits both columns: the definition, the function, the example of it",
     "Row": "a row: the record, and an example of it",
-    "rows": "rows as a list: of each table, of two columns",
+    "rows": "rows: as a list of each table, of two columns; written out, the number of them",
+    "sections": "the sections of a table: as a list; written out, the number of them",
     "count": "a number of rows",
     "key": "a section number",
     "bits": "the 64 bits of a double",
@@ -81,6 +84,7 @@ ONE = {
     "capacity": "document 01's capacity: the definition and the function that gives it",
     "groups": "a number of groups",
     "table": "a table: its bytes as they are lent, the buffer and group count that a list of calls leaves",
+    "TableTotals": "how many sections and rows a table has: the struct, and the definition that gives it",
     "Place": "where a key stands among records: the enum, and the definition that gives it",
     "last": "the place that the next row tries first",
     "initial": "the bytes in tables' buffers at the start",
@@ -101,7 +105,7 @@ ONE = {
 # parameters of two types
 TWO_TYPES = {"sum", "side"}
 ONE |= {f"limb{i}": "the bound of a limb" for i in range(4)}
-ONE |= {f"of-{call}": "what is said of this call's contract" for call in ("keys", "values", "read", "key-start", "value-start", "write", "report", "girth-read", "girth-write", "girth-report", "girth-sum", "girth-figure", "girth-line")}
+ONE |= {f"of-{call}": "what is said of this call's contract" for call in ("keys", "values", "read", "key-start", "value-start", "write", "report", "girth-read", "girth-write", "girth-report", "girth-sum", "girth-figure", "girth-line", "girth-totals")}
 
 NAME = r"[^\s:(){}.,;]+"
 

@@ -5,7 +5,8 @@ import struct
 import sys
 
 HEAD = ('section', 'rows', 'bits', 'hundredths', 'side')
-HEADS = (HEAD, HEAD[:-1])  # a report of an earlier season may have no sides
+HEADS = (HEAD, HEAD[:-1])  # a report of an earlier season may have no sides, and no total
+TOTAL = re.compile(r'total (0|[1-9][0-9]{0,12}) (0|[1-9][0-9]{0,12})')
 ROUNDING = {-1: 'rounded down', 0: 'not rounded', 1: 'rounded up'}
 FORMS = {
     'section': (re.compile(r'[0-9]{1,10}'), int),
@@ -25,10 +26,10 @@ class Refused(int):
 
 
 class Report:
-    """A report: the sections with their fields by name, or the refusal of the whole file."""
+    """A report: the sections with their fields by name and the total, if it has one, or the refusal of the whole file."""
 
-    def __init__(self, name, sections, names=(), refused=None):
-        self.name, self.sections, self.refused = name, sections, refused
+    def __init__(self, name, sections, names=(), total=None, refused=None):
+        self.name, self.sections, self.total, self.refused = name, sections, total, refused
         self.has_sides = 'side' in names
 
 
@@ -55,26 +56,49 @@ def fields(names, line):
     return found
 
 
+def enter(sections, found):
+    if sections and found['section'] <= max(sections):
+        raise Bad('the sections do not rise')
+    sections[found['section']] = found
+
+
+def total_of(line, sections, is_last):
+    """The numbers of a total, which have to be those of the lines above it."""
+    words = TOTAL.fullmatch(line)
+    if not words:
+        raise Bad('`total` and two numbers, of sections and of rows, make the last line')
+    if not is_last:
+        raise Bad('something follows the total')
+    said = {'section': int(words[1]), 'row': int(words[2])}
+    counted = {'section': len(sections), 'row': sum(s['rows'] for s in sections.values())}
+    for word in said:
+        if said[word] != counted[word]:
+            raise Bad(f'the total says {many(said[word], word)}, and the lines above it have {counted[word]}: the report was cut or changed')
+    return said
+
+
 def parse(name, text):
     lines = text.split('\n')
     if lines.pop() != '' or not lines:
         raise Bad(f'{name} is not a report: it does not end with a line feed')
     whole = re.fullmatch(r'refused ([0-9]+)', lines[0])
-    if whole and len(lines) == 1:
+    if whole and len(lines) > 1:
+        raise Bad(f'{name} is not a report: something follows the refusal of the file')
+    if whole:
         return Report(name, {}, refused=Refused(whole[1]))
     names = tuple(lines[0].split(' '))
     if names not in HEADS:
         raise Bad(f'{name} is not a report: its first line is neither "{" ".join(HEAD)}" nor a refusal')
-    sections = {}
+    sections, total = {}, None
     for number, line in enumerate(lines[1:], 2):
         try:
-            found = fields(names, line)
+            if line.startswith('total'):
+                total = total_of(line, sections, number == len(lines))
+            else:
+                enter(sections, fields(names, line))
         except Bad as e:
             raise Bad(f'{name}, line {number}: {e}') from None
-        if sections and found['section'] <= max(sections):
-            raise Bad(f'{name}, line {number}: the sections do not rise')
-        sections[found['section']] = found
-    return Report(name, sections, names)
+    return Report(name, sections, names, total)
 
 
 def load(name):
@@ -109,6 +133,10 @@ def write(text):
 
 
 # ---- words and numbers
+
+def many(n, word):
+    return f'{n} {word}' if n == 1 else f'{n} {word}s'
+
 
 def double(bits):
     return struct.unpack('<d', struct.pack('<Q', bits))[0]

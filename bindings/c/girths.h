@@ -41,6 +41,9 @@ int64_t girth_figure(const uint8_t *table, size_t table_len, uint64_t g, uint32_
 int64_t girth_line(const uint8_t *table, size_t table_len, uint64_t g, uint32_t key, uint64_t *count, uint64_t *bits, int64_t *figure,
                    int64_t *side);
 
+/* How many sections and how many rows a table of g records has, the rows being the row counts of its records added up. The answer is 0, or -7. */
+int64_t girth_totals(const uint8_t *table, size_t table_len, uint64_t g, uint64_t *sections, uint64_t *rows);
+
 /* The report of a patch file, at the front of out: the length of its text, at most 4,096 bytes, or -16 where out is shorter than the text. */
 int64_t girth_report(const uint8_t *file, size_t file_len, uint8_t *out, size_t out_len);
 

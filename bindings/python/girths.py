@@ -9,6 +9,8 @@
     (Sum(sum=1.5, side=0), 150)
     >>> girths.line(table, g, 2)
     Line(section=2, rows=1, sum=0.125, figure=13, side=0)
+    >>> girths.totals(table, g)
+    Totals(sections=2, rows=3)
     >>> girths.sum(table, g, 5)
     Traceback (most recent call last):
     girths.Refused: refused 13: the section has no row
@@ -31,7 +33,7 @@ import subprocess
 import tempfile
 from typing import NamedTuple
 
-__all__ = ['Columns', 'Line', 'NotBuilt', 'Refused', 'Sum', 'add', 'bits', 'figure', 'line', 'merge', 'read', 'report', 'sum', 'write']
+__all__ = ['Columns', 'Line', 'NotBuilt', 'Refused', 'Sum', 'Totals', 'add', 'bits', 'figure', 'line', 'merge', 'read', 'report', 'sum', 'totals', 'write']
 
 ROOT = pathlib.Path(__file__).resolve().parents[2]
 LONGEST_FILE = 65536
@@ -92,6 +94,12 @@ class Line(NamedTuple):
     side: int
 
 
+class Totals(NamedTuple):
+    """How many sections a table has, and how many rows they have: the row counts of its records added up."""
+    sections: int
+    rows: int
+
+
 # ---- the library
 
 def _run(command, what):
@@ -135,6 +143,7 @@ _TYPES = {
     'girth_sum': _TABLE + [ctypes.c_uint32, _OUT, _SIGNED_OUT],
     'girth_figure': _TABLE + [ctypes.c_uint32, _SIGNED_OUT],
     'girth_line': _TABLE + [ctypes.c_uint32, _OUT, _OUT, _SIGNED_OUT, _SIGNED_OUT],
+    'girth_totals': _TABLE + [_OUT, _OUT],
     'girth_report': 2 * [_BYTES, _LENGTH],
 }
 _loaded = None
@@ -301,6 +310,16 @@ def line(table, g, key):
     g, key = _whole('a group count', g, 64), _whole('a section', key, 32)
     _answer(_library().girth_line(*lent.words, g, key, *map(ctypes.byref, outs)))
     return Line(key, outs[0].value, _double(outs[1].value), outs[2].value, outs[3].value)
+
+
+def totals(table, g):
+    """How many sections and rows a table of g records has, or refusal 7."""
+    lent, outs = _Lent('a table', table), (ctypes.c_uint64(), ctypes.c_uint64())
+    g = _whole('a group count', g, 64)
+    _answer(_library().girth_totals(*lent.words, g, *map(ctypes.byref, outs)))
+    if outs[0].value != g:
+        raise RuntimeError('the library gave another number of sections than the table has records')
+    return Totals(outs[0].value, outs[1].value)
 
 
 def report(file):

@@ -24,6 +24,7 @@
 //! let line = girths::line(&table, g, 1)?;
 //! assert_eq!((line.count, f64::from_bits(line.bits), line.figure, line.side), (2, 1.5, 150, 0));
 //! assert_eq!(girths::sum(&table, g, 5).unwrap_err().number(), 13);
+//! assert_eq!(girths::totals(&table, g)?, girths::Totals { sections: 2, rows: 3 });
 //!
 //! // the same rows as two patches on two tables, merged
 //! let mut other = [0u8; 64 * 64];
@@ -59,6 +60,7 @@ extern "C" {
     fn girth_line(
         table: *const u8, table_len: usize, g: u64, key: u32, count: *mut u64, bits: *mut u64, figure: *mut i64, side: *mut i64,
     ) -> i64;
+    fn girth_totals(table: *const u8, table_len: usize, g: u64, sections: *mut u64, rows: *mut u64) -> i64;
     fn girth_report(file: *const u8, file_len: usize, out: *mut u8, out_len: usize) -> i64;
 }
 
@@ -132,6 +134,15 @@ pub struct Line {
     pub figure: i64,
     /// The side of its sum, as in [`Sum`].
     pub side: i64,
+}
+
+/// The bottom line of a table.
+#[derive(Debug, PartialEq, Clone, Copy)]
+pub struct Totals {
+    /// How many sections the table has.
+    pub sections: u64,
+    /// How many rows they have: the row counts of the records added up.
+    pub rows: u64,
 }
 
 fn answer(r: i64) -> Result<u64, Refusal> {
@@ -220,6 +231,15 @@ pub fn line(table: &[u8], g: u64, key: u32) -> Result<Line, Refusal> {
         girth_line(table.as_ptr(), table.len(), g, key, &mut l.count, &mut l.bits, &mut l.figure, &mut l.side)
     });
     settled(r, l, l == Line { count: 0, bits: 0, figure: 0, side: 0 })
+}
+
+/// How many sections and rows a table of g records has, or refusal 7.
+pub fn totals(table: &[u8], g: u64) -> Result<Totals, Refusal> {
+    let mut t = Totals { sections: u64::MAX, rows: u64::MAX };
+    let r = answer(unsafe { girth_totals(table.as_ptr(), table.len(), g, &mut t.sections, &mut t.rows) });
+    let t = settled(r, t, t == Totals { sections: 0, rows: 0 })?;
+    assert_eq!(t.sections, g, "a table has a section for each record");
+    Ok(t)
 }
 
 /// Writes the report of a patch file to the front of an output, and gives its length, 4,096 bytes at most. Refusal 16 leaves the output untouched.

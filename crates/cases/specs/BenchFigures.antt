@@ -14,7 +14,7 @@ use Rattle.finish.specs.Finish.{RoundedSum, sumOf, figureOf}
 -- a figure of the bench book
 pub data BenchFigure : Type 0 where
   -- the top and the three totals
-  totals : ℕ → ℤ → ℤ → ℤ → BenchFigure
+  topAndTotals : ℕ → ℤ → ℤ → ℤ → BenchFigure
   -- the top and the first total
   firstTotal : ℕ → ℤ → BenchFigure
   -- the first residue and carry
@@ -54,7 +54,7 @@ orEmpty (some s) = s
 
 -- the figure of the same kind that a section has
 abbrev pub figureLike : Option Section → List ℕ → BenchFigure → BenchFigure
-figureLike o bs (totals a b c d) = totals (orEmpty o .top) (orEmpty o .high) (orEmpty o .middle) (orEmpty o .low)
+figureLike o bs (topAndTotals a b c d) = topAndTotals (orEmpty o .top) (orEmpty o .high) (orEmpty o .middle) (orEmpty o .low)
 figureLike o bs (firstTotal a b) = firstTotal (orEmpty o .top) (orEmpty o .high)
 figureLike o bs (split a b) = split (residueOf (orEmpty o .high)) (carryOf (orEmpty o .high))
 figureLike o bs (sum a) = sum (sumBits (sumOf o))
@@ -79,15 +79,15 @@ entry bs f = record { rowBits = bs; benchFigure = f }
 abbrev pub benchFigures : List Case
 benchFigures =
     -- B1: 1; B2: -1; B3: 31.5; B4: 32; B5: 96
-    entry (double1 ∷ []) (totals 26 (pos (2 ^ 34)) (pos 0) (pos 0))
+    entry (double1 ∷ []) (topAndTotals 26 (pos (2 ^ 34)) (pos 0) (pos 0))
     ∷ entry (0xBFF0000000000000 ∷ []) (split 1125882726973440 (negsuc 0))
     ∷ entry (0x403F800000000000 ∷ []) (firstTotal 26 (pos 541165879296))
-    ∷ entry (0x4040000000000000 ∷ []) (totals 27 (pos 0) (pos (2 ^ 39)) (pos 0))
-    ∷ entry (0x4058000000000000 ∷ []) (totals 27 (pos 2) (negℤ (pos (2 ^ 39))) (pos 0))
+    ∷ entry (0x4040000000000000 ∷ []) (topAndTotals 27 (pos 0) (pos (2 ^ 39)) (pos 0))
+    ∷ entry (0x4058000000000000 ∷ []) (topAndTotals 27 (pos 2) (negℤ (pos (2 ^ 39))) (pos 0))
     -- B6: bits 1, and bits 0000007FFFFFFFFF; B7: bits 0000008000000000
-    ∷ entry (0x0000000000000001 ∷ []) (totals 0 (pos 1) (pos 0) (pos 0))
+    ∷ entry (0x0000000000000001 ∷ []) (topAndTotals 0 (pos 1) (pos 0) (pos 0))
     ∷ entry (0x0000007FFFFFFFFF ∷ []) (firstTotal 0 (pos 549755813887))
-    ∷ entry (0x0000008000000000 ∷ []) (totals 1 (pos 0) (pos (2 ^ 39)) (pos 0))
+    ∷ entry (0x0000008000000000 ∷ []) (topAndTotals 1 (pos 0) (pos (2 ^ 39)) (pos 0))
     -- B8: both zeros
     ∷ entry (0x0000000000000000 ∷ 0x8000000000000000 ∷ []) (sum (accepted 0))
     -- B9: in each order, and by left-to-right addition

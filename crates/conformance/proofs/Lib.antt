@@ -1,6 +1,7 @@
--- Contracts as callers learn them: steps of ways of working, and calls on files.
+-- Contracts as callers learn them: steps of ways of working, calls on files, and what a report says of its rows.
 pub mod Steps
 pub mod Possible
 pub mod Lists
 pub mod Totality
 pub mod Placing
+pub mod Reported

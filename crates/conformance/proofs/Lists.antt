@@ -3,8 +3,8 @@ use Prim.Native.Nat.{ℕ}
 use mathlib.Core.Path.{_≡_, refl, sym, ap, ap₂, _∙_}
 use mathlib.Core.List.{List, [], _∷_}
 use Rattle.history.specs.Rows.{SameRows}
-use Rattle.history.specs.Calls.{Question, Call, ask}
-use Rattle.history.specs.Run.{Store, State, Answer, stateAfter, answer, answers, askTable}
+use Rattle.history.specs.Calls.{Question, totals, Call, ask}
+use Rattle.history.specs.Run.{Store, State, Answer, stateAfter, answer, answers, askTable, askRows}
 use Rattle.history.specs.Demand3.{History, empty, rows, table, used}
 use Rattle.history.proofs.Demand.{demand3}
 use Rattle.conformance.specs.Worked.{Worked, done, next, CarriedOut, WorkedIs}
@@ -33,15 +33,16 @@ same-table h h′ xs xs′ s s′ w w′ i j e = (
 )
 
 pub worked-is : WorkedIs
-unfolding answer
+unfolding answer askRows
 worked-is = record {
   called-is = steps;
   as-listed = worked;
   answers-are = λ h xs s w. sym (worked (empty h) (h .calls) xs s w .0) ∙ demand3 .answered h;
   tables-are = table-is;
   same-tables = same-table;
-  same-finishings = λ h h′ xs xs′ s s′ w w′ i j e q x x′ t t′ c c′.
+  same-questions = λ h h′ xs xs′ s s′ w w′ i j e q x x′ t t′ c c′.
       sym (steps s (ask i q) x t c .0) ∙ same-table h h′ xs xs′ s s′ w w′ i j e .2 q ∙ steps s′ (ask j q) x′ t′ c′ .0;
+  totals-counted = λ h xs s w i x t c. sym (steps s (ask i totals) x t c .0) ∙ ap (λ (u : Store). askTable u totals) (table-is h xs s w i) ∙ demand3 .fixed-answer h i totals;
   possible = all-possible;
   buffer-cleared = λ κs a z e l. l .1 .1;
   girth-buffer-cleared = λ κs a z e l. l .1 .1;

@@ -10,10 +10,12 @@ use Rattle.table.specs.Calls.{addOutcome, addLeaves, cleared, mergeOutcome, mer
 use Rattle.limbs.specs.Side.{sideNumber}
 use Rattle.finish.specs.Finish.{RoundedSum, sumOutcome, figureOutcome, lineOutcome}
 use Rattle.finish.specs.declared.FinishedLine.{FinishedLine}
+use Rattle.totals.specs.declared.TableTotals.{TableTotals}
+use Rattle.totals.specs.Totals.{totalsOutcome}
 use Rattle.exports.specs.Calls.{returnsCount, returnsZero, writes, doubleBits}
-use Rattle.history.specs.Calls.{sum, figure, line, Call, add, merge, ask}
+use Rattle.history.specs.Calls.{sum, figure, line, totals, Call, add, merge, ask}
 use Rattle.history.specs.Run.{State, Answer}
-use Rattle.conformance.specs.Called.{Called, by-girth-add, by-girth-merge, by-girth-sum, by-girth-figure, by-girth-line}
+use Rattle.conformance.specs.Called.{Called, by-girth-add, by-girth-merge, by-girth-sum, by-girth-figure, by-girth-line, by-girth-totals}
 use Rattle.conformance.specs.Worked.{Worked, done, next}
 
 -- a reference to x, wherever it stands
@@ -37,6 +39,13 @@ one-possible s (ask i (line k)) =
       _,
       by-girth-line i ([], ([], ([], ([], ([], tt))))) (ref b, (g, (k, (ref 0, (ref 0, (ref (pos 0), (ref (pos 0), tt))))))) (returnsZero o)
           (ref b, (g, (k, (ref (writes 0 (λ (l : FinishedLine). l .count) o), (ref (writes 0 (λ (l : FinishedLine). doubleBits (l .sum)) o), (ref (writes (pos 0) (λ (l : FinishedLine). l .figure) o), (ref (writes (pos 0) (λ (l : FinishedLine). sideNumber (l .side)) o), tt))))))) (refl, refl) (refl, (refl, (refl, (refl, refl)))),
+    )
+one-possible s (ask i totals) =
+    let b = s .tables i .buffer in let g = s .tables i .groups in let o = totalsOutcome b g in (
+      _,
+      _,
+      by-girth-totals i ([], ([], ([], tt))) (ref b, (g, (ref 0, (ref 0, tt)))) (returnsZero o)
+          (ref b, (g, (ref (writes 0 (λ (t : TableTotals). t .groups) o), (ref (writes 0 (λ (t : TableTotals). t .count) o), tt)))) (refl, refl) (refl, (refl, refl)),
     )
 one-possible s (merge i j d) =
     let b = s .tables i .buffer in let g = s .tables i .groups in let b′ = s .tables j .buffer in let g′ = s .tables j .groups in

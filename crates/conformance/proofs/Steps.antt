@@ -22,10 +22,12 @@ use Rattle.limbs.specs.Side.{sideNumber, sideSaid}
 use Rattle.limbs.proofs.Sides.{side-back}
 use Rattle.finish.specs.Finish.{RoundedSum, sumFor, figureFor, lineFor, sumGrounds, figureGrounds, finishedBy, finishing, sumOutcome, figureOutcome, lineOutcome}
 use Rattle.finish.proofs.Outcomes.{section-given, finished-not, sum-given, line-given, double-back}
+use Rattle.totals.specs.declared.TableTotals.{TableTotals}
+use Rattle.totals.specs.Totals.{tableTotals, totalsGrounds, totalsOutcome}
 use Rattle.exports.specs.Calls.{returnsCount, returnsZero, writes, doubleBits}
 use Rattle.history.specs.Calls.{Call}
-use Rattle.history.specs.Run.{State, Answer, setTable, after, step, groupsAre, sumIs, figureIs, lineIs, askTable, answer}
-use Rattle.conformance.specs.Called.{countSaid, valuesSaid, Called, by-add, by-girth-add, by-merge, by-girth-merge, by-sum, by-figure, by-line, by-girth-sum, by-girth-figure, by-girth-line}
+use Rattle.history.specs.Run.{State, Answer, setTable, after, step, groupsAre, sumIs, figureIs, lineIs, totalsAre, askTable, answer}
+use Rattle.conformance.specs.Called.{countSaid, valuesSaid, Called, by-add, by-girth-add, by-merge, by-girth-merge, by-sum, by-figure, by-line, by-girth-sum, by-girth-figure, by-girth-line, by-totals, by-girth-totals}
 
 -- ---- outcomes read back
 
@@ -114,6 +116,18 @@ module _ (s : List ℕ) (g k : ℕ) where
       let d = ap sideSaid (wd ∙ ap (writes (pos 0) (λ (l : FinishedLine). sideNumber (l .side))) e) ∙ side-back (l .side) in
       λ i. record { key = p .0 i; count = n i; sum = b i; figure = f i; side = d i }) q
 
+totals-not-0 : (s : List ℕ) (g : ℕ) → isRefusal 0 (totalsOutcome s g) ≡ false
+totals-not-0 s g = not-given 0 (totalsGrounds s g) (tableTotals (sections s g)) refl
+
+totals-read : (s : List ℕ) (g : ℕ) {z : ℤ} {m n : ℕ} → z ≡ returnsZero (totalsOutcome s g) → m ≡ writes 0 (λ (t : TableTotals). t .groups) (totalsOutcome s g)
+    → n ≡ writes 0 (λ (t : TableTotals). t .count) (totalsOutcome s g) → valuesSaid (record { groups = m; count = n }) z ≡ totalsOutcome s g
+totals-read s g q wm wn =
+    given-out (totalsOutcome s g) _ (totals-not-0 s g)
+    (λ t e.
+    let m = wm ∙ ap (writes 0 (λ (t : TableTotals). t .groups)) e in
+    let n = wn ∙ ap (writes 0 (λ (t : TableTotals). t .count)) e in
+    λ i. record { groups = m i; count = n i }) q
+
 pub steps : (s : State) (c : Call) (x : Answer) (s′ : State) → Called s c x s′ → (answer s c ≡ x) × (step s c ≡ s′)
 unfolding answer step askTable
 steps s c x s′ (by-add i κs a z e b p l) = (
@@ -140,3 +154,5 @@ steps s c x s′ (by-line i κs a z e p l) = (rw (p .0, p .1) (ap lineIs (sym l)
 steps s c x s′ (by-girth-sum i κs a z e p l) = (rw (p .0, p .1) (ap sumIs (sym (sum-read _ _ _ (l .0) (l .1 .0) (l .1 .1)))), refl)
 steps s c x s′ (by-girth-figure i κs a z e p l) = (rw (p .0, p .1) (ap figureIs (sym (figure-read _ _ _ (l .0) (l .1)))), refl)
 steps s c x s′ (by-girth-line i κs a z e p l) = (rw (p .0, p .1) (ap lineIs (sym (line-read _ _ _ (l .0) (l .1 .0) (l .1 .1 .0) (l .1 .1 .1 .0) (l .1 .1 .1 .1)))), refl)
+steps s c x s′ (by-totals i κs a z e p l) = (rw (p .0, p .1) (ap totalsAre (sym l)), refl)
+steps s c x s′ (by-girth-totals i κs a z e p l) = (rw (p .0, p .1) (ap totalsAre (sym (totals-read _ _ (l .0) (l .1 .0) (l .1 .1)))), refl)

@@ -14,6 +14,7 @@ asks-nothing = record {
   of-sum = λ κs a. tt;
   of-figure = λ κs a. tt;
   of-line = λ κs a. tt;
+  of-totals = λ κs a. tt;
   of-report = λ κs a. tt;
   of-girth-read = λ κs a. tt;
   of-girth-add = λ κs a. tt;
@@ -21,6 +22,7 @@ asks-nothing = record {
   of-girth-sum = λ κs a. tt;
   of-girth-figure = λ κs a. tt;
   of-girth-line = λ κs a. tt;
+  of-girth-totals = λ κs a. tt;
   of-girth-write = λ κs a. tt;
   of-girth-report = λ κs a. tt;
 }

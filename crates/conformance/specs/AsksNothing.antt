@@ -23,6 +23,8 @@ use Rattle.finish.proofs.figure.Reads as figureReads
 use Rattle.finish.proofs.figure.Kinds as figureKinds
 use Rattle.finish.proofs.line.Reads as lineReads
 use Rattle.finish.proofs.line.Kinds as lineKinds
+use Rattle.totals.proofs.totals.Reads as totalsReads
+use Rattle.totals.proofs.totals.Kinds as totalsKinds
 use Rattle.report.proofs.report.Reads as reportReads
 use Rattle.report.proofs.report.Kinds as reportKinds
 use Rattle.exports.proofs.girth_read.Reads as girthReadReads
@@ -37,6 +39,8 @@ use Rattle.exports.proofs.girth_figure.Reads as girthFigureReads
 use Rattle.exports.proofs.girth_figure.Kinds as girthFigureKinds
 use Rattle.exports.proofs.girth_line.Reads as girthLineReads
 use Rattle.exports.proofs.girth_line.Kinds as girthLineKinds
+use Rattle.exports.proofs.girth_totals.Reads as girthTotalsReads
+use Rattle.exports.proofs.girth_totals.Kinds as girthTotalsKinds
 use Rattle.exports.proofs.girth_write.Reads as girthWriteReads
 use Rattle.exports.proofs.girth_write.Kinds as girthWriteKinds
 use Rattle.exports.proofs.girth_report.Reads as girthReportReads
@@ -55,6 +59,7 @@ pub record AsksNothing : Type 1 where
   pub of-sum : (κs : Lfts 1) (a : Dens κs sumKinds.ps) → sumReads.Asked κs a
   pub of-figure : (κs : Lfts 1) (a : Dens κs figureKinds.ps) → figureReads.Asked κs a
   pub of-line : (κs : Lfts 1) (a : Dens κs lineKinds.ps) → lineReads.Asked κs a
+  pub of-totals : (κs : Lfts 1) (a : Dens κs totalsKinds.ps) → totalsReads.Asked κs a
   pub of-report : (κs : Lfts 2) (a : Dens κs reportKinds.ps) → reportReads.Asked κs a
   pub of-girth-read : (κs : Lfts 3) (a : Dens κs girthReadKinds.ps) → girthReadReads.Asked κs a
   pub of-girth-add : (κs : Lfts 4) (a : Dens κs girthAddKinds.ps) → girthAddReads.Asked κs a
@@ -62,5 +67,6 @@ pub record AsksNothing : Type 1 where
   pub of-girth-sum : (κs : Lfts 3) (a : Dens κs girthSumKinds.ps) → girthSumReads.Asked κs a
   pub of-girth-figure : (κs : Lfts 2) (a : Dens κs girthFigureKinds.ps) → girthFigureReads.Asked κs a
   pub of-girth-line : (κs : Lfts 5) (a : Dens κs girthLineKinds.ps) → girthLineReads.Asked κs a
+  pub of-girth-totals : (κs : Lfts 3) (a : Dens κs girthTotalsKinds.ps) → girthTotalsReads.Asked κs a
   pub of-girth-write : (κs : Lfts 3) (a : Dens κs girthWriteKinds.ps) → girthWriteReads.Asked κs a
   pub of-girth-report : (κs : Lfts 2) (a : Dens κs girthReportKinds.ps) → girthReportReads.Asked κs a

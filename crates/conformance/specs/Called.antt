@@ -18,8 +18,9 @@ use Rattle.limbs.specs.Side.{sideSaid}
 use Rattle.columns.specs.declared.Kind.the-variants.{Double}
 use Rattle.table.specs.Answer.{tableAnswer}
 use Rattle.finish.specs.Answer.{sumAnswer, figureAnswer, lineAnswer}
-use Rattle.history.specs.Calls.{sum, figure, line, Call, add, merge, ask}
-use Rattle.history.specs.Run.{Store, State, setTable, after, Answer, groupsAre, sumIs, figureIs, lineIs}
+use Rattle.totals.specs.Answer.{totalsAnswer}
+use Rattle.history.specs.Calls.{sum, figure, line, totals, Call, add, merge, ask}
+use Rattle.history.specs.Run.{Store, State, setTable, after, Answer, groupsAre, sumIs, figureIs, lineIs, totalsAre}
 use Rattle.add.proofs.add.Reads as addReads
 use Rattle.add.proofs.add.Kinds as addKinds
 use Rattle.merge.proofs.merge.Reads as mergeReads
@@ -30,6 +31,8 @@ use Rattle.finish.proofs.figure.Reads as figureReads
 use Rattle.finish.proofs.figure.Kinds as figureKinds
 use Rattle.finish.proofs.line.Reads as lineReads
 use Rattle.finish.proofs.line.Kinds as lineKinds
+use Rattle.totals.proofs.totals.Reads as totalsReads
+use Rattle.totals.proofs.totals.Kinds as totalsKinds
 use Rattle.exports.proofs.girth_add.Reads as girthAddReads
 use Rattle.exports.proofs.girth_add.Kinds as girthAddKinds
 use Rattle.exports.proofs.girth_merge.Reads as girthMergeReads
@@ -40,6 +43,8 @@ use Rattle.exports.proofs.girth_figure.Reads as girthFigureReads
 use Rattle.exports.proofs.girth_figure.Kinds as girthFigureKinds
 use Rattle.exports.proofs.girth_line.Reads as girthLineReads
 use Rattle.exports.proofs.girth_line.Kinds as girthLineKinds
+use Rattle.exports.proofs.girth_totals.Reads as girthTotalsReads
+use Rattle.exports.proofs.girth_totals.Kinds as girthTotalsKinds
 
 -- table t is lent: its bytes b, and its group count g
 abbrev pub Lent : Store → List ℕ → ℕ → Type 0
@@ -91,3 +96,9 @@ pub data Called (s : State) : Call → Answer → State → Type 1 where
   by-girth-line : (i : ℕ) (κs : Lfts 5) (a : Dens κs girthLineKinds.ps) (z : resT girthLineKinds.r κs .Denot) (e : AtExit (endedOf 5 girthLineKinds.ps girthLineKinds.r) κs)
       → Lent (s .tables i) (now (a .0)) (a .1 .0) → girthLineReads.Learnt κs a z e
       → Called s (ask i (line (a .1 .1 .0))) (lineIs (valuesSaid (record { key = a .1 .1 .0; count = now (e .1 .1 .1 .0); sum = ofBits binary64 (now (e .1 .1 .1 .1 .0)); figure = now (e .1 .1 .1 .1 .1 .0); side = sideSaid (now (e .1 .1 .1 .1 .1 .1 .0)) }) z)) s
+  -- table and group count, and what the exported call writes its two numbers through
+  by-totals : (i : ℕ) (κs : Lfts 1) (a : Dens κs totalsKinds.ps) (z : resT totalsKinds.r κs .Denot) (e : AtExit (endedOf 1 totalsKinds.ps totalsKinds.r) κs)
+      → Lent (s .tables i) (now (a .0)) (a .1 .0) → totalsReads.Learnt κs a z e → Called s (ask i totals) (totalsAre (totalsAnswer z)) s
+  by-girth-totals : (i : ℕ) (κs : Lfts 3) (a : Dens κs girthTotalsKinds.ps) (z : resT girthTotalsKinds.r κs .Denot) (e : AtExit (endedOf 3 girthTotalsKinds.ps girthTotalsKinds.r) κs)
+      → Lent (s .tables i) (now (a .0)) (a .1 .0) → girthTotalsReads.Learnt κs a z e
+      → Called s (ask i totals) (totalsAre (valuesSaid (record { groups = now (e .1 .1 .0); count = now (e .1 .1 .1 .0) }) z)) s

@@ -1,4 +1,5 @@
--- What an exported finishing returns and writes out, as its callers learn it: 0 and the values of an accepted one, minus the number and zeros of a refused one.
+-- What an exported finishing, and the exported totals, return and write out, as their callers learn it: 0 and the values of an accepted call, minus the number and zeros
+-- of a refused one.
 use mathlib.Core.Path.{_≡_}
 use lib.IntN.{ℤ, pos}
 use contract.Lifetimes.{Lfts}
@@ -8,6 +9,8 @@ use denote.Ref.{now}
 use Rattle.finish.specs.declared.FinishedLine.{FinishedLine}
 use Rattle.limbs.specs.Side.{sideNumber}
 use Rattle.finish.specs.Finish.{RoundedSum, sumOutcome, figureOutcome, lineOutcome}
+use Rattle.totals.specs.declared.TableTotals.{TableTotals}
+use Rattle.totals.specs.Totals.{totalsOutcome}
 use Rattle.exports.specs.Calls.{returnsZero, writes, doubleBits}
 use Rattle.exports.proofs.girth_sum.Reads as girthSumReads
 use Rattle.exports.proofs.girth_sum.Kinds as girthSumKinds
@@ -15,8 +18,10 @@ use Rattle.exports.proofs.girth_figure.Reads as girthFigureReads
 use Rattle.exports.proofs.girth_figure.Kinds as girthFigureKinds
 use Rattle.exports.proofs.girth_line.Reads as girthLineReads
 use Rattle.exports.proofs.girth_line.Kinds as girthLineKinds
+use Rattle.exports.proofs.girth_totals.Reads as girthTotalsReads
+use Rattle.exports.proofs.girth_totals.Kinds as girthTotalsKinds
 
--- a is the table, its group count and the section number, and after them what is written, which e has at the end
+-- a has the table and its group count, for a finishing then the section number, and last what is lent for writing; e has the same at the end
 pub record Exported : Type 1 where
   pub of-girth-sum : (κs : Lfts 3) (a : Dens κs girthSumKinds.ps) (z : resT girthSumKinds.r κs .Denot) (e : AtExit (endedOf 3 girthSumKinds.ps girthSumKinds.r) κs) → girthSumReads.Learnt κs a z e
       → let o = sumOutcome (now (a .0)) (a .1 .0) (a .1 .1 .0) in
@@ -31,3 +36,6 @@ pub record Exported : Type 1 where
       × (now (e .1 .1 .1 .1 .0) ≡ writes 0 (λ (l : FinishedLine). doubleBits (l .sum)) o)
       × (now (e .1 .1 .1 .1 .1 .0) ≡ writes (pos 0) (λ (l : FinishedLine). l .figure) o)
       × (now (e .1 .1 .1 .1 .1 .1 .0) ≡ writes (pos 0) (λ (l : FinishedLine). sideNumber (l .side)) o)
+  pub of-girth-totals : (κs : Lfts 3) (a : Dens κs girthTotalsKinds.ps) (z : resT girthTotalsKinds.r κs .Denot) (e : AtExit (endedOf 3 girthTotalsKinds.ps girthTotalsKinds.r) κs) → girthTotalsReads.Learnt κs a z e
+      → let o = totalsOutcome (now (a .0)) (a .1 .0) in
+      (z ≡ returnsZero o) × (now (e .1 .1 .0) ≡ writes 0 (λ (t : TableTotals). t .groups) o) × (now (e .1 .1 .1 .0) ≡ writes 0 (λ (t : TableTotals). t .count) o)

@@ -6,10 +6,11 @@ use contract.Lifetimes.{Lfts}
 use borrow.Fn.Kinds.{Dens, endedOf, resT}
 use denote.Triple.Clauses.{AtExit}
 use denote.Ref.{now}
+use Rattle.refusal.specs.Outcome.{accepted}
 use Rattle.table.specs.Calls.{cleared}
-use Rattle.history.specs.Rows.{SameRows}
-use Rattle.history.specs.Calls.{Question, Call, ask, noRows}
-use Rattle.history.specs.Run.{State, Answer, step, stateAfter, answer, answers, answersRows, askTable}
+use Rattle.history.specs.Rows.{SameRows, rowsTotals}
+use Rattle.history.specs.Calls.{Question, totals, Call, ask, noRows}
+use Rattle.history.specs.Run.{State, Answer, totalsAre, step, stateAfter, answer, answers, answersRows, askTable}
 use Rattle.history.specs.Demand3.{History, empty, lengths, rows, table, used}
 use Rattle.add.proofs.add.Reads as addReads
 use Rattle.add.proofs.add.Kinds as addKinds
@@ -38,9 +39,12 @@ pub record WorkedIs : Type 1 where
   -- and after any two ways of working tables with the same rows have the same group count, used bytes and answers
   pub same-tables : (h h′ : History) (xs xs′ : List Answer) (s s′ : State) → CarriedOut h xs s → CarriedOut h′ xs′ s′ → (i j : ℕ) → SameRows (rows h i) (rows h′ j)
       → (s .tables i .groups ≡ s′ .tables j .groups) × (used (s .tables i) ≡ used (s′ .tables j)) × ((q : Question) → askTable (s .tables i) q ≡ askTable (s′ .tables j) q)
-  -- and every finishing call answers alike in the two
-  pub same-finishings : (h h′ : History) (xs xs′ : List Answer) (s s′ : State) → CarriedOut h xs s → CarriedOut h′ xs′ s′ → (i j : ℕ) → SameRows (rows h i) (rows h′ j)
+  -- and every question is answered alike in the two
+  pub same-questions : (h h′ : History) (xs xs′ : List Answer) (s s′ : State) → CarriedOut h xs s → CarriedOut h′ xs′ s′ → (i j : ℕ) → SameRows (rows h i) (rows h′ j)
       → (q : Question) (x x′ : Answer) (t t′ : State) → Called s (ask i q) x t → Called s′ (ask j q) x′ t′ → x ≡ x′
+  -- the totals that a call gives of a table are the number of distinct sections of its rows and the number of its rows
+  pub totals-counted : (h : History) (xs : List Answer) (s : State) → CarriedOut h xs s → (i : ℕ) (x : Answer) (t : State) → Called s (ask i totals) x t
+      → x ≡ totalsAre (accepted (rowsTotals (rows h i)))
   -- every list of calls can be carried out
   pub possible : (s : State) (cs : List Call) → (xs : List Answer) × (s′ : State) × Worked s cs xs s′
   -- an add leaves only zeros in its work buffer

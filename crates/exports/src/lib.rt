@@ -19,6 +19,7 @@ ghost use Rattle.table.specs.Calls.{addOutcome, addLeaves, cleared, mergeOutcom
 ghost use Rattle.table.specs.Answer.{tableAnswer};
 ghost use Rattle.limbs.specs.Side.{sideNumber};
 ghost use Rattle.finish.specs.Finish.{sumOutcome, figureOutcome, lineOutcome};
+ghost use Rattle.totals.specs.Totals.{totalsOutcome};
 ghost use Rattle.report.specs.Text.{reportText};
 ghost use Rattle.report.specs.Answer.{printOutcome, printLeaves};
 ghost use Rattle.exports.specs.Calls.{returnsCount, returnsZero, writes, doubleBits};
@@ -30,6 +31,7 @@ use output::OutputAnswer;
 use patch::Reading;
 use refusal::Refusal;
 use table::TableAnswer;
+use totals::TotalsAnswer;
 
 // Minus a refusal's number.
 fn minus(r: Refusal) -> i64
@@ -170,6 +172,25 @@ pub extern "C" fn girth_line(
             0
         }
         LineAnswer::Refused(r) => minus(r),
+    }
+}
+
+// How many sections and rows a table has.
+#[no_mangle]
+pub extern "C" fn girth_totals(table: &[u8], g: u64, sections: &mut u64, rows: &mut u64) -> i64
+    ensures answer { λ r. ⌜ r ≡ returnsZero (totalsOutcome (now (table .entry)) g) ⌝ }
+    ensures sections { λ _. ⌜ now (sections .exit) ≡ writes 0 (λ t. t .groups) (totalsOutcome (now (table .entry)) g) ⌝ }
+    ensures rows { λ _. ⌜ now (rows .exit) ≡ writes 0 (λ t. t .count) (totalsOutcome (now (table .entry)) g) ⌝ }
+{
+    *sections = 0;
+    *rows = 0;
+    match totals::totals(table, g as usize) {
+        TotalsAnswer::Totals(t) => {
+            *sections = t.groups;
+            *rows = t.count;
+            0
+        }
+        TotalsAnswer::Refused(r) => minus(r),
     }
 }
 

@@ -110,7 +110,7 @@ insert-rising a (l ∷ ls) r = go (tri a l)
     go (same e) = rw (le-ltb a l (omega arith), eq-eqb a l e) r
     go (more e) = rw (le-ltb a l (omega arith), ne-eqb a l (λ q. omega arith)) (insert-above l a ls e r)
 
-numbers-rising : (rows : List Row) → Rising (sectionNumbers rows)
+pub numbers-rising : (rows : List Row) → Rising (sectionNumbers rows)
 unfolding sectionNumbers
 numbers-rising [] = tt
 numbers-rising (r ∷ rs) = insert-rising (r .key) (sectionNumbers rs) (numbers-rising rs)

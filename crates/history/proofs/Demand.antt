@@ -11,6 +11,7 @@ use Rattle.level.specs.Level.{topOf}
 use Rattle.columns.specs.Columns.{Row}
 use Rattle.record.specs.Sound.{sound}
 use Rattle.record.specs.Section.{sectionBytes, find, sectionOf}
+use Rattle.totals.specs.Totals.{tableTotals}
 use Rattle.lists.specs.Lists.{anyOf}
 use Rattle.table.proofs.Bytes.{length-sectionBytes}
 use Rattle.history.specs.Rows.{SameRows, sectionBits}
@@ -24,6 +25,7 @@ use Rattle.history.proofs.Order.{canonical-same}
 use Rattle.history.proofs.Near.{near}
 use Rattle.history.proofs.Questions.{ask-is, ask-same}
 use Rattle.history.proofs.Tables.{HoldsRows, sound-is}
+use Rattle.history.proofs.Totals.{totals-canonical}
 use Rattle.history.proofs.Calls.{agrees-none, agrees-after, answers-are, answers-not-7}
 
 -- a section has a record where it has a row, and just there
@@ -77,6 +79,7 @@ demand3 = record {
   same-bytes = same-by-rows used (λ xs. sectionBytes (canonical xs)) (λ xs ys e. ap sectionBytes (canonical-same xs ys e)) used-are;
   same-answer = λ h h′ i j q. same-by-rows (λ t. askTable t q) (λ xs. askRows xs q) (ask-same q) (λ h i. asked-is h i q) h h′ i j;
   fixed-answer = asked-is;
+  counted = λ h i. ap tableTotals (holds-is h i .has-sections) ∙ totals-canonical (rows h i);
   absent = λ h i k e. found-is h i k ∙ absent-is k (sectionBits k (rows h i)) e;
   present = λ h i k l. (
     sectionOf k (sectionBits k (rows h i)),

@@ -8,6 +8,7 @@ use lib.ListN.{length, getD}
 use Rattle.level.specs.Double.{magnitude}
 use Rattle.history.specs.Rows.{largest}
 use Rattle.history.specs.Terms.{Terms}
+use Rattle.history.proofs.Distinct.{once}
 use Rattle.history.proofs.Order.{occurs-permuted, permuted}
 
 all : (bs : List ℕ) (i : ℕ) → i < length bs → magnitude (getD bs i 0) ≤ largest bs
@@ -31,6 +32,7 @@ pub terms : Terms
 terms = record {
   same-if = λ xs ys p. record { counts = λ r. occurs-permuted r p };
   same-only-if = λ xs ys h. permuted xs ys (h .counts);
+  numbers-once = once;
   largest-one = one;
   largest-all = all;
 }

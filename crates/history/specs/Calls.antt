@@ -13,9 +13,10 @@ use Rattle.table.specs.Calls.{mostRows, lentGrounds}
 use Rattle.lists.specs.Lists.{anyOf}
 use Rattle.history.specs.Rows.{sectionBits, sectionNumbers}
 
--- what is asked of a table: the sum, the mill figure or the finished line of a section
+-- what is asked of a table: the sum, the mill figure or the finished line of a section, or the table's totals
 pub data Question : Type 0 where
   sum figure line : (key : ℕ) → Question
+  totals : Question
 
 -- a call on tables named by numbers: an add to table i of two columns with values of some kind, of which the keys hold bytes as every slice does, with the
 -- length of the lent work buffer, which is no table; a merge of table j into a different table i; a question about table i

@@ -1,13 +1,14 @@
 -- Worked examples, computed from the definitions: small lists of calls, and the tables that they leave.
 use Prim.Native.Nat.{ℕ}
 use mathlib.Core.Path.{_≡_, refl}
+use mathlib.Core.Bool.{true, false}
 use mathlib.Core.List.{List, [], _∷_, map}
 use lib.Dec.{T}
 use lib.ListN.{replicate}
 use lib.Pow.{areBytes}
 use Rattle.codec.specs.Bytes.{number, bytes, numberAt}
 use Rattle.codec.specs.Cells.{cells, image}
-use Rattle.refusal.specs.Outcome.{accepted, refused}
+use Rattle.refusal.specs.Outcome.{accepted, refused, isRefusal}
 use Rattle.level.specs.Level.{topFrom, top, given, contribution, topOf, total}
 use Rattle.columns.specs.declared.Kind.the-variants.{Double}
 use Rattle.columns.specs.Columns.{width, Row, rowsFrom, columnsFit, rowsOf}
@@ -23,11 +24,12 @@ use Rattle.record.specs.Keys.{rising}
 use Rattle.record.specs.Sound.{soundTotal, isZero, soundRecord, soundRecords, sound}
 use Rattle.table.specs.Combine.{ofRow, levelOf, combine, absorb, merged, added}
 use Rattle.table.specs.Calls.{addGrounds, columnGrounds, mergeGrounds}
+use Rattle.totals.specs.Totals.{rowTotal}
 use Rattle.lists.specs.Lists.{anyOf}
-use Rattle.history.specs.Rows.{sectionBits, insertKey, sectionNumbers}
+use Rattle.history.specs.Rows.{sectionBits, insertKey, sectionNumbers, rowsTotals}
 use Rattle.history.specs.Canonical.{canonical}
-use Rattle.history.specs.Calls.{sum, figure, line, Call, add, merge, ask, tooManyRows, tooManyKeys, addRowsGrounds, mergeRowsGrounds, noRows, stepRows, ledgerAfter}
-use Rattle.history.specs.Run.{Store, State, noGroups, groupsAre, sumIs, figureIs, lineIs, step, stateAfter, askTable, answer, answers}
+use Rattle.history.specs.Calls.{sum, figure, line, totals, Call, add, merge, ask, tooManyRows, tooManyKeys, addRowsGrounds, mergeRowsGrounds, noRows, stepRows, ledgerAfter}
+use Rattle.history.specs.Run.{Store, State, noGroups, groupsAre, sumIs, figureIs, lineIs, totalsAre, step, stateAfter, askTable, answer, answers, refuses}
 
 -- a buffer of 128 bytes: room for two sections
 abbrev lentBuffer : List ℕ
@@ -70,7 +72,16 @@ one-table : map leftInTable0 ways ≡ replicate 6 (record { buffer = written (ca
 unfolding ways leftInTable0 canonical sectionNumbers insertKey sectionBits sectionAtTop topOf total
 one-table = refl
 
--- a table merged twice counts twice, in the rows and in the record
+-- two sections and three rows, whichever way
+totals-alike : map (λ (cs : List Call). askTable (leftInTable0 cs) totals) ways ≡ replicate 6 (totalsAre (accepted (rowsTotals exampleRows)))
+unfolding ways leftInTable0 rowTotal sectionNumbers insertKey
+totals-alike = refl
+
+example-totals : rowsTotals exampleRows ≡ record { groups = 2; count = 3 }
+unfolding sectionNumbers insertKey
+example-totals = refl
+
+-- a table merged twice counts twice, in the rows, in the record and in the totals
 twice : List Call
 unfolding image bytes
 twice = addTo 0 (7 ∷ []) (1 ∷ []) tt ∷ addTo 1 (7 ∷ []) (2 ∷ []) tt ∷ merge 0 1 tt ∷ merge 0 1 tt ∷ []
@@ -82,6 +93,42 @@ rows-twice = refl
 count-twice : map (λ (t : Section). t .count) (sections (leftInTable0 twice .buffer) 1) ≡ 3 ∷ []
 unfolding twice leftInTable0
 count-twice = refl
+
+totals-twice : askTable (leftInTable0 twice) totals ≡ totalsAre (accepted (record { groups = 1; count = 3 }))
+unfolding twice leftInTable0 rowTotal
+totals-twice = refl
+
+-- the totals asked at first, after an add, after a refused one and after another
+totalsAsked : List Call
+unfolding image bytes
+totalsAsked =
+    ask 0 totals ∷ addTo 0 (7 ∷ 3 ∷ []) (1 ∷ 2 ∷ []) tt ∷ ask 0 totals ∷ refusedAdd ∷ ask 0 totals ∷ addTo 0 (7 ∷ []) (1 ∷ []) tt ∷ ask 0 totals ∷ []
+
+totals-between : answers emptyTables totalsAsked
+    ≡ totalsAre (accepted (record { groups = 0; count = 0 })) ∷ groupsAre (accepted 2)
+    ∷ totalsAre (accepted (record { groups = 2; count = 2 })) ∷ groupsAre (refused 9)
+    ∷ totalsAre (accepted (record { groups = 2; count = 2 })) ∷ groupsAre (accepted 2)
+    ∷ totalsAre (accepted (record { groups = 2; count = 3 })) ∷ []
+unfolding totalsAsked leftInTable0 rowTotal
+totals-between = refl
+
+-- one call of each kind
+eachCall : List Call
+unfolding image bytes
+eachCall = addTo 0 (7 ∷ []) (1 ∷ []) tt ∷ merge 0 1 tt ∷ ask 0 (sum 7) ∷ ask 0 (figure 7) ∷ ask 0 (line 7) ∷ ask 0 totals ∷ []
+
+-- every table claims a record and has none
+unsoundTables : State
+unsoundTables = record { tables = λ i. record { buffer = []; groups = 1 } }
+
+-- each is refused with 7 there, and with no other number
+refused-with-7 : map (λ (c : Call). refuses 7 (answer unsoundTables c)) eachCall ≡ replicate 6 true
+unfolding eachCall unsoundTables answer askTable sound isRefusal addGrounds columnGrounds mergeGrounds
+refused-with-7 = refl
+
+not-with-8 : map (λ (c : Call). refuses 8 (answer unsoundTables c)) eachCall ≡ replicate 6 false
+unfolding eachCall unsoundTables answer askTable sound isRefusal addGrounds columnGrounds mergeGrounds
+not-with-8 = refl
 
 -- refused with 9, accepted, and refused with 12 and with 10
 fourAdds : List Call

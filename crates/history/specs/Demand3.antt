@@ -10,8 +10,9 @@ use Rattle.level.specs.Level.{exactSum}
 use Rattle.columns.specs.Columns.{Row}
 use Rattle.record.specs.Sound.{sound}
 use Rattle.record.specs.Section.{Section, sections, written, find, kept}
+use Rattle.totals.specs.Totals.{tableTotals}
 use Rattle.lists.specs.Lists.{anyOf}
-use Rattle.history.specs.Rows.{SameRows, sectionBits, largest}
+use Rattle.history.specs.Rows.{SameRows, sectionBits, rowsTotals, largest}
 use Rattle.history.specs.Canonical.{canonical}
 use Rattle.history.specs.Calls.{Question, Call, noRows, ledgerAfter}
 use Rattle.history.specs.Run.{Store, State, noGroups, stateAfter, askTable, askRows, answers, answersRows, refuses}
@@ -55,13 +56,15 @@ pub record Demand3 : Type 0 where
   -- every call is answered by the conditions on the rows, its inputs and the lent lengths; so 7 is never an answer
   pub answered : (h : History) → answers (empty h) (h .calls) ≡ answersRows (lengths h) noRows (h .calls)
   pub never-7 : (h : History) → anyOf (refuses 7) (answers (empty h) (h .calls)) ≡ false
-  -- tables with the same rows, after any two ways of working, have the same group count, used bytes and answers to every question: sums, mill figures and
-  -- finished lines
+  -- tables with the same rows, after any two ways of working, have the same group count, used bytes and answers to every question: sums, mill figures,
+  -- finished lines and totals
   pub same-groups : (h h′ : History) (i j : ℕ) → SameRows (rows h i) (rows h′ j) → table h i .groups ≡ table h′ j .groups
   pub same-bytes : (h h′ : History) (i j : ℕ) → SameRows (rows h i) (rows h′ j) → used (table h i) ≡ used (table h′ j)
   pub same-answer : (h h′ : History) (i j : ℕ) (q : Question) → SameRows (rows h i) (rows h′ j) → askTable (table h i) q ≡ askTable (table h′ j) q
   -- and these are the answers that document 01 fixes for the rows
   pub fixed-answer : (h : History) (i : ℕ) (q : Question) → askTable (table h i) q ≡ askRows (rows h i) q
+  -- the totals of a table, its records counted and their row counts added up, are the number of distinct sections of its rows and the number of its rows
+  pub counted : (h : History) (i : ℕ) → tableTotals (sectionsIn (table h i)) ≡ rowsTotals (rows h i)
   -- a section without a row has no record
   pub absent : (h : History) (i k : ℕ) → length (sectionBits k (rows h i)) ≡ 0 → find k (sectionsIn (table h i)) ≡ none
   -- a section with a row has one: its count is the number of its rows, and its kept value lies within

@@ -1,11 +1,13 @@
--- What is read off a list of rows: how often each occurs, the sections they name, the values and the largest size of a section's rows.
+-- What is read off a list of rows: how often each occurs, the sections they name, how many sections and rows there are, the values and the largest size of a section's rows.
 use Prim.Native.Nat.{ℕ, _+_, max}
 use mathlib.Core.Path.{_≡_}
 use mathlib.Core.Bool.{Bool, cond, _&&_}
 use mathlib.Core.List.{List, [], _∷_}
 use lib.Dec.{ltb, eqb}
+use lib.ListN.{length}
 use Rattle.level.specs.Double.{magnitude}
 use Rattle.columns.specs.Columns.{Row}
+use Rattle.totals.specs.declared.TableTotals.{TableTotals}
 
 -- two rows have the same number and the same bits
 abbrev pub equalRows : Row → Row → Bool
@@ -41,6 +43,10 @@ insertKey k (l ∷ ls) = cond (ltb k l) (k ∷ l ∷ ls) (cond (eqb k l) (l ∷ 
 unfoldable pub sectionNumbers : List Row → List ℕ
 sectionNumbers [] = []
 sectionNumbers (r ∷ rs) = insertKey (r .key) (sectionNumbers rs)
+
+-- how many distinct sections the rows have, and how many rows there are
+abbrev pub rowsTotals : List Row → TableTotals
+rowsTotals rows = record { groups = length (sectionNumbers rows); count = length rows }
 
 -- the size of the largest row
 unfoldable pub largest : List ℕ → ℕ

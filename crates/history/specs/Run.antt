@@ -9,9 +9,11 @@ use Rattle.finish.specs.Finish.{RoundedSum, sumOf, figureOf, lineOf, sumOutcome
 use Rattle.columns.specs.declared.Kind.{Kind}
 use Rattle.columns.specs.Columns.{Row}
 use Rattle.table.specs.Calls.{addOutcome, addLeaves, mergeOutcome, mergeLeaves}
-use Rattle.history.specs.Rows.{sectionBits}
+use Rattle.totals.specs.declared.TableTotals.{TableTotals}
+use Rattle.totals.specs.Totals.{totalsOutcome}
+use Rattle.history.specs.Rows.{sectionBits, rowsTotals}
 use Rattle.history.specs.Canonical.{sectionIf}
-use Rattle.history.specs.Calls.{Question, sum, figure, line, Call, add, merge, ask, Ledger, update, addRowsOutcome, mergeRowsOutcome, stepRows}
+use Rattle.history.specs.Calls.{Question, sum, figure, line, totals, Call, add, merge, ask, Ledger, update, addRowsOutcome, mergeRowsOutcome, stepRows}
 
 -- a table as it is lent: the bytes of its buffer, and its group count
 pub record Store : Type 0 where
@@ -57,24 +59,27 @@ stateAfter s (c ∷ cs) = stateAfter (step s c) cs
 
 -- ---- answers
 
--- what a call answers: the new group count, a sum with its side, a mill figure or a finished line
+-- what a call answers: the new group count, a sum with its side, a mill figure, a finished line or a table's totals
 pub data Answer : Type 0 where
   groupsAre : Outcome ℕ → Answer
   sumIs : Outcome RoundedSum → Answer
   figureIs : Outcome ℤ → Answer
   lineIs : Outcome FinishedLine → Answer
+  totalsAre : Outcome TableTotals → Answer
 
 -- what a question about a table answers
 unfoldable pub askTable : Store → Question → Answer
 askTable t (sum k) = sumIs (sumOutcome (t .buffer) (t .groups) k)
 askTable t (figure k) = figureIs (figureOutcome (t .buffer) (t .groups) k)
 askTable t (line k) = lineIs (lineOutcome (t .buffer) (t .groups) k)
+askTable t totals = totalsAre (totalsOutcome (t .buffer) (t .groups))
 
 -- what it is to answer by the table's rows alone
 unfoldable pub askRows : List Row → Question → Answer
 askRows rows (sum k) = sumIs (sumOf (sectionIf k (sectionBits k rows)))
 askRows rows (figure k) = figureIs (figureOf (sectionIf k (sectionBits k rows)))
 askRows rows (line k) = lineIs (lineOf (sectionIf k (sectionBits k rows)))
+askRows rows totals = totalsAre (accepted (rowsTotals rows))
 
 -- what a call in this state answers
 unfoldable pub answer : State → Call → Answer
@@ -104,3 +109,4 @@ refuses n (groupsAre o) = isRefusal n o
 refuses n (sumIs o) = isRefusal n o
 refuses n (figureIs o) = isRefusal n o
 refuses n (lineIs o) = isRefusal n o
+refuses n (totalsAre o) = isRefusal n o

@@ -4,13 +4,14 @@ use mathlib.Core.List.{[], _∷_, map}
 use lib.IntN.{pos, negsuc}
 use Rattle.numerals.specs.Numerals.{digit, digits, decimalIn, decimal, integer, hexadecimal}
 
--- 0, 9, 10, 150 and 4294967295
-decimals : map decimal (0 ∷ 9 ∷ 10 ∷ 150 ∷ 4294967295 ∷ [])
+-- 0, 9, 10, 150, 4294967295 and 4398046510080
+decimals : map decimal (0 ∷ 9 ∷ 10 ∷ 150 ∷ 4294967295 ∷ 4398046510080 ∷ [])
     ≡ (0x30 ∷ [])
     ∷ (0x39 ∷ [])
     ∷ (0x31 ∷ 0x30 ∷ [])
     ∷ (0x31 ∷ 0x35 ∷ 0x30 ∷ [])
     ∷ (0x34 ∷ 0x32 ∷ 0x39 ∷ 0x34 ∷ 0x39 ∷ 0x36 ∷ 0x37 ∷ 0x32 ∷ 0x39 ∷ 0x35 ∷ [])
+    ∷ (0x34 ∷ 0x33 ∷ 0x39 ∷ 0x38 ∷ 0x30 ∷ 0x34 ∷ 0x36 ∷ 0x35 ∷ 0x31 ∷ 0x30 ∷ 0x30 ∷ 0x38 ∷ 0x30 ∷ [])
     ∷ []
 unfolding decimal decimalIn digit
 decimals = refl

@@ -15,6 +15,10 @@ pub record Continued (s : List ℕ) (at : ℕ) (w : List ℕ) (k : ℕ) (s′ : 
 abbrev pub longestDecimal : ℕ
 longestDecimal = 10
 
+-- a 64-bit number in decimal
+abbrev pub longestU64 : ℕ
+longestU64 = 20
+
 -- a 32-bit whole number in decimal, its minus sign included
 abbrev pub longestInteger : ℕ
 longestInteger = 1 + longestDecimal

@@ -5,7 +5,7 @@ ghost use mathlib.Core.List.{[], _∷_, _++_};
 ghost use lib.ListN.{length};
 ghost use lib.Seq.{sets};
 ghost use Rattle.numerals.specs.Numerals.{digit, digits, decimal, integer, hexadecimal};
-ghost use Rattle.numerals.specs.Steps.{Continued, longestDecimal, longestInteger, longestBits};
+ghost use Rattle.numerals.specs.Steps.{Continued, longestDecimal, longestU64, longestInteger, longestBits};
 
 // The byte of a digit.
 fn digit_byte(d: u64) -> u8
@@ -33,8 +33,8 @@ fn put_digits(text: &mut [u8], at: usize, n: u64, base: u64, w: usize)
 }
 
 // How many decimal digits n has.
-fn decimal_length(n: u32) -> usize
-    ensures { λ r. ⌜ (r ≡ length (decimal n)) × (r ≤ longestDecimal) ⌝ }
+fn decimal_length(n: u64) -> usize
+    ensures { λ r. ⌜ r ≡ length (decimal n) ⌝ }
 {
     let mut y = n;
     let mut w = 1;
@@ -66,13 +66,20 @@ pub fn print_bytes(text: &mut [u8], at: usize, w: &[u8]) -> usize
     at + i
 }
 
+fn print_u64(text: &mut [u8], at: usize, n: u64) -> usize
+    requires { ⌜ at + length (decimal n) ≤ length (now text) ⌝ }
+    ensures { λ r. ⌜ Continued (now (text .entry)) at (decimal n) (length (decimal n)) (now (text .exit)) r ⌝ }
+{
+    let w = decimal_length(n);
+    put_digits(text, at, n, 10, w);
+    at + w
+}
+
 fn print_decimal(text: &mut [u8], at: usize, n: u32) -> usize
     requires { ⌜ at + longestDecimal ≤ length (now text) ⌝ }
     ensures { λ r. ⌜ Continued (now (text .entry)) at (decimal n) longestDecimal (now (text .exit)) r ⌝ }
 {
-    let w = decimal_length(n);
-    put_digits(text, at, n as u64, 10, w);
-    at + w
+    print_u64(text, at, n as u64)
 }
 
 fn print_integer(text: &mut [u8], at: usize, z: i32) -> usize
@@ -100,6 +107,14 @@ pub fn print_decimal_field(text: &mut [u8], at: usize, n: u32, ending: u8) -> us
     ensures { λ r. ⌜ Continued (now (text .entry)) at (decimal n ++ ending ∷ []) (longestDecimal + 1) (now (text .exit)) r ⌝ }
 {
     let next = print_decimal(text, at, n);
+    print_byte(text, next, ending)
+}
+
+pub fn print_u64_field(text: &mut [u8], at: usize, n: u64, ending: u8) -> usize
+    requires { ⌜ at + longestU64 + 1 ≤ length (now text) ⌝ }
+    ensures { λ r. ⌜ Continued (now (text .entry)) at (decimal n ++ ending ∷ []) (longestU64 + 1) (now (text .exit)) r ⌝ }
+{
+    let next = print_u64(text, at, n);
     print_byte(text, next, ending)
 }
 

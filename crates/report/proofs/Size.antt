@@ -1,4 +1,4 @@
--- The report of a file is at most 4,096 bytes long: its head line has 34, and each of at most 64 lines at most 58.
+-- The report of a file is at most 4,096 bytes long: its head line has 34, each of at most 64 lines at most 58, and the total line at most 48.
 use Prim.Native.Nat.{ℕ, _-_, _*_, _^_, _<_, _≤_}
 use mathlib.Core.Path.{_≡_, refl}
 use mathlib.Core.Bool.{false}
@@ -21,6 +21,8 @@ use Rattle.patch.proofs.File.{key-column}
 use Rattle.record.specs.Section.{Section}
 use Rattle.table.specs.Calls.{columnGrounds, addGrounds, addSections, addOutcome}
 use Rattle.table.proofs.Bytes.{Storable}
+use Rattle.totals.specs.Totals.{rowTotal, tableTotals}
+use Rattle.totals.proofs.Rows.{row-total-bound}
 use Rattle.limbs.specs.declared.Side.{Side}
 use Rattle.limbs.specs.declared.Side.the-variants.{Less, Equal, Greater}
 use Rattle.limbs.specs.Side.{sideNumber}
@@ -28,9 +30,9 @@ use Rattle.finish.specs.Figure.{beyond}
 use Rattle.finish.specs.Finish.{RoundedSum, sumFor, figureFor, sumGrounds, figureGrounds, sumOf, figureOf}
 use Rattle.numerals.specs.Numerals.{decimalIn, decimal, integer, hexadecimal}
 use Rattle.numerals.specs.Steps.{longestInteger}
-use Rattle.numerals.proofs.Size.{length-decimal, length-integer, length-hexadecimal}
-use Rattle.report.specs.Text.{space, lineFeed, headLine, refusalText, figureFields, lastFields, lineWith, lineText, tableBytes, emptyTable, addText, columnsText, fileText, reportText}
-use Rattle.report.specs.Steps.{longestSide, longestRefusal, longestRefusedFields, longestLine, longestText}
+use Rattle.numerals.proofs.Size.{length-decimal, length-u64, length-integer, length-hexadecimal}
+use Rattle.report.specs.Text.{space, lineFeed, headLine, refusalText, figureFields, lastFields, lineWith, lineText, totalWord, totalLine, tableText, tableBytes, emptyTable, addText, columnsText, fileText, reportText}
+use Rattle.report.specs.Steps.{longestSide, longestRefusal, longestRefusedFields, longestLine, longestTotalLine, longestText}
 use Rattle.report.proofs.Whole.{columns-left}
 
 -- ---- one line
@@ -93,6 +95,22 @@ unfolding image
 length-lines [] a = omega arith
 length-lines (t ∷ ts) a = omega (arith, length-append (lineText t) (image lineText ts), length-line t (a .0), length-lines ts (a .1))
 
+-- each row count has 32 bits, and there are fewer than 2^32 of them
+length-totals : (ts : List Section) → All Storable ts → length ts < 2 ^ 32 → length (totalLine (tableTotals ts)) ≤ longestTotalLine
+unfolding totalLine
+length-totals ts a h =
+    let g = decimal (length ts) in
+    let n = decimal (rowTotal ts) in
+    omega (
+      arith,
+      length-append (totalWord ++ g ++ space ++ n) lineFeed,
+      length-append (totalWord ++ g ++ space) n,
+      length-append (totalWord ++ g) space,
+      length-append totalWord g,
+      length-u64 (length ts) (omega arith),
+      length-u64 (rowTotal ts) (omega (arith, row-total-bound ts a)),
+    )
+
 -- ---- the whole text
 length-refused : (n : ℕ) → n < 100 → length (refusalText n ++ lineFeed) ≤ longestText
 length-refused n h = omega (arith, length-append (refusalText n) lineFeed, length-refusal n (omega arith))
@@ -106,7 +124,7 @@ unfolding readOutcome readGrounds
 read-number f e = refused-below 100 (readGrounds Double f) (rowCount f) refl e
 
 length-columns : (ks vs : List ℕ) → AreBytes ks → length (columnsText Double ks vs) ≤ longestText
-unfolding columnsText addText headLine
+unfolding columnsText addText tableText headLine
 length-columns ks vs b = by (addOutcome Double emptyTable 0 ks vs tableBytes) refl
   where
     ts : List Section
@@ -116,7 +134,15 @@ length-columns ks vs b = by (addOutcome Double emptyTable 0 ks vs tableBytes) re
     by (accepted g) e =
         let l = columns-left ks vs g b e in
         let room : g ≤ 64 = l .room in
-        omega (arith, l .groups, length-lines ts (rw (← l .has-sections) (l .table .storable)))
+        let all : All Storable ts = rw (← l .has-sections) (l .table .storable) in
+        omega (
+          arith,
+          l .groups,
+          length-append (headLine ++ image lineText ts) (totalLine (tableTotals ts)),
+          length-append headLine (image lineText ts),
+          length-lines ts all,
+          length-totals ts all (omega (arith, l .groups)),
+        )
     by (refused n) e = length-refused n (add-number ks vs e)
 
 pub length-report : (f : List ℕ) → AreBytes f → length (reportText f) ≤ longestText

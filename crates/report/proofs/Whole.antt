@@ -6,7 +6,6 @@ use native.Mathlib.Omega.{arith}
 use borrow.Author.Tests.{lt-ltb, le-ltb}
 use lib.ListN.{length, take, drop}
 use lib.Seq.{length-take-le}
-use Rattle.codec.specs.Cells.{image}
 use Rattle.codec.proofs.Laws.{AreBytes}
 use Rattle.refusal.specs.Outcome.{accepted, refused}
 use Rattle.refusal.proofs.Outcomes.{accepted-within}
@@ -16,7 +15,7 @@ use Rattle.patch.specs.File.{readOutcome, keyColumn, valueColumn}
 use Rattle.record.specs.Section.{sections}
 use Rattle.table.specs.Calls.{addSections, addOutcome, addLeaves}
 use Rattle.table.proofs.Accepted.{AcceptedTable, proper-none, add-left}
-use Rattle.report.specs.Text.{tableBytes, refusalText, lineFeed, headLine, lineText, emptyTable, addText, columnsText, fileText, reportText}
+use Rattle.report.specs.Text.{tableBytes, refusalText, lineFeed, emptyTable, tableText, addText, columnsText, fileText, reportText}
 use Rattle.report.specs.Answer.{printOutcome, printLeaves}
 use Rattle.numerals.specs.Steps.{Continued}
 
@@ -26,11 +25,11 @@ pub columns-left : (ks vs : List ℕ) (g : ℕ) → AreBytes ks → addOutcome D
 columns-left ks vs g a e = add-left emptyTable 0 (proper-none emptyTable) Double ks vs tableBytes a e
 
 pub columns-accepted : (ks vs : List ℕ) (g : ℕ) → AreBytes ks → addOutcome Double emptyTable 0 ks vs tableBytes ≡ accepted g
-    → columnsText Double ks vs ≡ headLine ++ image lineText (sections (addLeaves Double emptyTable 0 ks vs tableBytes) g)
+    → columnsText Double ks vs ≡ tableText (sections (addLeaves Double emptyTable 0 ks vs tableBytes) g)
 unfolding columnsText addText
 columns-accepted ks vs g a e =
     ap (λ o. addText o (addSections Double emptyTable 0 ks vs)) e
-    ∙ ap (λ ts. headLine ++ image lineText ts) (sym (columns-left ks vs g a e .has-sections))
+    ∙ ap tableText (sym (columns-left ks vs g a e .has-sections))
 
 pub columns-refused : (ks vs : List ℕ) (n : ℕ) → addOutcome Double emptyTable 0 ks vs tableBytes ≡ refused n → columnsText Double ks vs ≡ refusalText n ++ lineFeed
 unfolding columnsText addText

@@ -19,9 +19,10 @@ use Rattle.finish.specs.Side.{side}
 use Rattle.finish.specs.Figure.{millFigure, beyond}
 use Rattle.table.specs.Combine.{ofRow, levelOf, combine, absorb, added}
 use Rattle.table.specs.Calls.{addGrounds, columnGrounds}
+use Rattle.totals.specs.Totals.{rowTotal}
 use Rattle.lists.specs.Lists.{anyOf}
 use Rattle.numerals.specs.Numerals.{digit, digits, decimalIn, decimal, integer}
-use Rattle.report.specs.Text.{headLine, refusalText, figureFields, lastFields, lineWith, lineText, addText, columnsText, fileText, reportText}
+use Rattle.report.specs.Text.{headLine, refusalText, figureFields, lastFields, lineWith, lineText, totalLine, tableText, addText, columnsText, fileText, reportText}
 
 -- the file of rows with these section numbers and these bits
 rowsFile : List ℕ → List ℕ → List ℕ
@@ -36,6 +37,8 @@ sampleText =
     ∷ 0x31 ∷ 0x20 ∷ 0x32 ∷ 0x20 ∷ 0x33 ∷ 0x46 ∷ 0x46 ∷ 0x38 ∷ 0x30 ∷ 0x30 ∷ 0x30 ∷ 0x30 ∷ 0x30 ∷ 0x30 ∷ 0x30 ∷ 0x30 ∷ 0x30 ∷ 0x30 ∷ 0x30 ∷ 0x30 ∷ 0x20 ∷ 0x31 ∷ 0x35 ∷ 0x30 ∷ 0x20 ∷ 0x30 ∷ 0x0A
     -- 2 1 3FC0000000000000 13 0
     ∷ 0x32 ∷ 0x20 ∷ 0x31 ∷ 0x20 ∷ 0x33 ∷ 0x46 ∷ 0x43 ∷ 0x30 ∷ 0x30 ∷ 0x30 ∷ 0x30 ∷ 0x30 ∷ 0x30 ∷ 0x30 ∷ 0x30 ∷ 0x30 ∷ 0x30 ∷ 0x30 ∷ 0x30 ∷ 0x30 ∷ 0x20 ∷ 0x31 ∷ 0x33 ∷ 0x20 ∷ 0x30 ∷ 0x0A
+    -- total 2 3
+    ∷ 0x74 ∷ 0x6F ∷ 0x74 ∷ 0x61 ∷ 0x6C ∷ 0x20 ∷ 0x32 ∷ 0x20 ∷ 0x33 ∷ 0x0A
     ∷ []
 
 -- section 5 with two rows 7FEFFFFFFFFFFFFF, section 4294967295 with the row 21474836.5, section 1 with the last double below 2 and half a unit of it,
@@ -45,7 +48,7 @@ mixed =
     rowsFile (4294967295 ∷ 5 ∷ 5 ∷ 1 ∷ 1 ∷ 0 ∷ 0 ∷ [])
     (0x41747AE148000000 ∷ 0x7FEFFFFFFFFFFFFF ∷ 0x7FEFFFFFFFFFFFFF ∷ 0x3FFFFFFFFFFFFFFF ∷ 0x3CA0000000000000 ∷ 0xBFD0000000000000 ∷ 0x3C00000000000000 ∷ [])
 
--- a negative figure with a sum below its kept value, a sum above it, a sum refused and a figure refused
+-- a negative figure with a sum below its kept value, a sum above it, a sum refused and a figure refused; refused lines count in the totals
 mixedText : List ℕ
 mixedText =
     -- section rows bits hundredths side
@@ -58,13 +61,17 @@ mixedText =
     ∷ 0x35 ∷ 0x20 ∷ 0x32 ∷ 0x20 ∷ 0x72 ∷ 0x65 ∷ 0x66 ∷ 0x75 ∷ 0x73 ∷ 0x65 ∷ 0x64 ∷ 0x20 ∷ 0x31 ∷ 0x34 ∷ 0x0A
     -- 4294967295 1 41747AE148000000 refused 15
     ∷ 0x34 ∷ 0x32 ∷ 0x39 ∷ 0x34 ∷ 0x39 ∷ 0x36 ∷ 0x37 ∷ 0x32 ∷ 0x39 ∷ 0x35 ∷ 0x20 ∷ 0x31 ∷ 0x20 ∷ 0x34 ∷ 0x31 ∷ 0x37 ∷ 0x34 ∷ 0x37 ∷ 0x41 ∷ 0x45 ∷ 0x31 ∷ 0x34 ∷ 0x38 ∷ 0x30 ∷ 0x30 ∷ 0x30 ∷ 0x30 ∷ 0x30 ∷ 0x30 ∷ 0x20 ∷ 0x72 ∷ 0x65 ∷ 0x66 ∷ 0x75 ∷ 0x73 ∷ 0x65 ∷ 0x64 ∷ 0x20 ∷ 0x31 ∷ 0x35 ∷ 0x0A
+    -- total 4 7
+    ∷ 0x74 ∷ 0x6F ∷ 0x74 ∷ 0x61 ∷ 0x6C ∷ 0x20 ∷ 0x34 ∷ 0x20 ∷ 0x37 ∷ 0x0A
     ∷ []
 
 -- no rows
-headText : List ℕ
-headText =
+textWithoutRows : List ℕ
+textWithoutRows =
     -- section rows bits hundredths side
     0x73 ∷ 0x65 ∷ 0x63 ∷ 0x74 ∷ 0x69 ∷ 0x6F ∷ 0x6E ∷ 0x20 ∷ 0x72 ∷ 0x6F ∷ 0x77 ∷ 0x73 ∷ 0x20 ∷ 0x62 ∷ 0x69 ∷ 0x74 ∷ 0x73 ∷ 0x20 ∷ 0x68 ∷ 0x75 ∷ 0x6E ∷ 0x64 ∷ 0x72 ∷ 0x65 ∷ 0x64 ∷ 0x74 ∷ 0x68 ∷ 0x73 ∷ 0x20 ∷ 0x73 ∷ 0x69 ∷ 0x64 ∷ 0x65 ∷ 0x0A
+    -- total 0 0
+    ∷ 0x74 ∷ 0x6F ∷ 0x74 ∷ 0x61 ∷ 0x6C ∷ 0x20 ∷ 0x30 ∷ 0x20 ∷ 0x30 ∷ 0x0A
     ∷ []
 
 -- an empty file
@@ -82,6 +89,6 @@ infiniteText =
     ∷ []
 
 reports : map reportText (reportInput ∷ mixed ∷ rowsFile [] [] ∷ [] ∷ rowsFile (1 ∷ []) (0x7FF0000000000000 ∷ []) ∷ [])
-    ≡ sampleText ∷ mixedText ∷ headText ∷ refusedText ∷ infiniteText ∷ []
-unfolding reportInput sampleText trailerOf fileOf rowsFile mixed mixedText headText refusedText infiniteText reportText fileText columnsText addText lineText lineWith lastFields figureFields refusalText headLine decimal decimalIn digit digits integer number bytes numberAt cells image marked outside overlap readGrounds readOutcome column keyColumn valueColumn rowsFrom rowsOf columnsFit addGrounds columnGrounds anyOf ofRow levelOf combine absorb added top topFrom given contribution rising sound soundRecords kept nearestDouble tooLarge side millFigure beyond round toBits ofBits
+    ≡ sampleText ∷ mixedText ∷ textWithoutRows ∷ refusedText ∷ infiniteText ∷ []
+unfolding reportInput sampleText trailerOf fileOf rowsFile mixed mixedText textWithoutRows refusedText infiniteText reportText fileText columnsText addText tableText totalLine rowTotal lineText lineWith lastFields figureFields refusalText headLine decimal decimalIn digit digits integer number bytes numberAt cells image marked outside overlap readGrounds readOutcome column keyColumn valueColumn rowsFrom rowsOf columnsFit addGrounds columnGrounds anyOf ofRow levelOf combine absorb added top topFrom given contribution rising sound soundRecords kept nearestDouble tooLarge side millFigure beyond round toBits ofBits
 reports = refl

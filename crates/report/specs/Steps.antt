@@ -1,6 +1,6 @@
 -- The most bytes that each piece of the text takes.
 use Prim.Native.Nat.{ℕ, _+_}
-use Rattle.numerals.specs.Steps.{longestDecimal, longestInteger, longestBits}
+use Rattle.numerals.specs.Steps.{longestDecimal, longestU64, longestInteger, longestBits}
 
 -- "refused " and a number
 abbrev pub longestRefusal : ℕ
@@ -25,6 +25,10 @@ longestRefusedFields = longestBits + 1 + longestRefusal
 -- a line with them: no line needs more
 abbrev pub longestLine : ℕ
 longestLine = longestKeyAndCount + longestRefusedFields + 1
+
+-- "total ", two numbers of 64 bits, the space between them and a line feed
+abbrev pub longestTotalLine : ℕ
+longestTotalLine = 6 + longestU64 + 1 + longestU64 + 1
 
 -- the whole text
 abbrev pub longestText : ℕ

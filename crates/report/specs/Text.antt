@@ -16,6 +16,8 @@ use Rattle.limbs.specs.Side.{sideNumber}
 use Rattle.finish.specs.declared.FinishedLine.{FinishedLine}
 use Rattle.finish.specs.Finish.{RoundedSum, sumOf, figureOf}
 use Rattle.table.specs.Calls.{addOutcome, addSections}
+use Rattle.totals.specs.declared.TableTotals.{TableTotals}
+use Rattle.totals.specs.Totals.{tableTotals}
 use Rattle.numerals.specs.Numerals.{decimal, integer, hexadecimal}
 
 -- one space
@@ -29,6 +31,10 @@ lineFeed = 0x0A ∷ []
 -- "refused "
 abbrev pub refusedWord : List ℕ
 refusedWord = 0x72 ∷ 0x65 ∷ 0x66 ∷ 0x75 ∷ 0x73 ∷ 0x65 ∷ 0x64 ∷ 0x20 ∷ []
+
+-- "total "
+abbrev pub totalWord : List ℕ
+totalWord = 0x74 ∷ 0x6F ∷ 0x74 ∷ 0x61 ∷ 0x6C ∷ 0x20 ∷ []
 
 -- "section rows bits hundredths side" and a line feed
 unfoldable pub headLine : List ℕ
@@ -65,6 +71,14 @@ finishedText l = lineWith (l .key) (l .count) (lastFields (accepted (record { su
 unfoldable pub lineText : Section → List ℕ
 lineText s = lineWith (s .key) (s .count) (lastFields (sumOf (some s)) (figureOf (some s)))
 
+-- "total", the number of sections, the number of rows, and a line feed
+unfoldable pub totalLine : TableTotals → List ℕ
+totalLine t = totalWord ++ decimal (t .groups) ++ space ++ decimal (t .count) ++ lineFeed
+
+-- the head line, a line for each section, and the total line
+unfoldable pub tableText : List Section → List ℕ
+tableText ts = headLine ++ image lineText ts ++ totalLine (tableTotals ts)
+
 -- how many groups the report's table has room for
 abbrev pub tableGroups : ℕ
 tableGroups = 64
@@ -77,9 +91,9 @@ tableBytes = tableGroups * 64
 abbrev pub emptyTable : List ℕ
 emptyTable = replicate tableBytes 0
 
--- what the add of two columns prints: only its refusal, or the head line and a line for each section, the keys rising
+-- what the add of two columns prints: only its refusal, or the text of the table, the keys rising
 unfoldable pub addText : Outcome ℕ → List Section → List ℕ
-addText (accepted g) ts = headLine ++ image lineText ts
+addText (accepted g) ts = tableText ts
 addText (refused n) ts = refusalText n ++ lineFeed
 
 -- what the add of two columns to an empty table prints

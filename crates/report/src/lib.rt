@@ -16,10 +16,10 @@ ghost use Rattle.limbs.specs.Side.{sideNumber};
 ghost use Rattle.numerals.specs.Numerals.{decimal, integer, hexadecimal};
 ghost use Rattle.numerals.specs.Steps.{Continued, longestBits};
 ghost use Rattle.columns.specs.declared.Kind.the-variants.{Double};
-ghost use Rattle.report.specs.Text.{tableGroups, space, lineFeed, refusalText, lastFields, lineWith, finishedText, lineText, headLine, columnsText, reportText};
+ghost use Rattle.report.specs.Text.{tableGroups, space, lineFeed, refusalText, lastFields, lineWith, finishedText, lineText, totalLine, tableText, columnsText, reportText};
 ghost use Rattle.output.specs.Output.{outputAnswer};
 ghost use Rattle.report.specs.Answer.{printOutcome, printLeaves};
-ghost use Rattle.report.specs.Steps.{longestRefusal, longestKeyAndCount, longestSide, longestFinishedLine, longestRefusedFields, longestLine, longestText};
+ghost use Rattle.report.specs.Steps.{longestRefusal, longestKeyAndCount, longestSide, longestFinishedLine, longestRefusedFields, longestLine, longestTotalLine, longestText};
 use finish::FinishedLine;
 use finish::LineAnswer;
 use finish::SectionSum;
@@ -29,6 +29,7 @@ use patch::Reading;
 use record::Record;
 use refusal::Refusal;
 use table::TableAnswer;
+use totals::TableTotals;
 
 // The longest text.
 pub const LONGEST_TEXT: usize = 4096;
@@ -147,14 +148,25 @@ fn print_sections(text: &mut [u8], at: usize, table: &[u8], g: usize) -> usize
     end
 }
 
-// The head line and a line for each section.
+// The total line: how many sections and rows there are.
+fn print_totals(text: &mut [u8], at: usize, totals: TableTotals) -> usize
+    requires { ⌜ at + longestTotalLine ≤ length (now text) ⌝ }
+    ensures { λ r. ⌜ Continued (now (text .entry)) at (totalLine totals) longestTotalLine (now (text .exit)) r ⌝ }
+{
+    let a = numerals::print_bytes(text, at, b"total ");
+    let b = numerals::print_u64_field(text, a, totals.groups, b' ');
+    numerals::print_u64_field(text, b, totals.count, b'\n')
+}
+
+// The head line, a line for each section, and the total line.
 fn print_table(text: &mut [u8], table: &[u8], g: usize) -> usize
     requires { ⌜ (g ≤ tableGroups) × (longestText ≤ length (now text)) ⌝ }
     requires { ⌜ T (sound (now table) g) ⌝ }
-    ensures { λ r. ⌜ Continued (now (text .entry)) 0 (headLine ++ image lineText (sections (now (table .entry)) g)) longestText (now (text .exit)) r ⌝ }
+    ensures { λ r. ⌜ Continued (now (text .entry)) 0 (tableText (sections (now (table .entry)) g)) longestText (now (text .exit)) r ⌝ }
 {
     let next = numerals::print_bytes(text, 0, b"section rows bits hundredths side\n");
-    print_sections(text, next, table, g)
+    let end = print_sections(text, next, table, g);
+    print_totals(text, end, totals::table_totals(table, g))
 }
 
 // What the columns print.

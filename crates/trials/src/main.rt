@@ -184,10 +184,22 @@ fn print_section(t: &[u8], g: u64, key: u32) {
     end_line();
 }
 
-// Group count and digest of a table, then its sections.
+// The answer of the totals for g records, the sections and the rows.
+fn print_totals(t: &[u8], g: u64) {
+    let mut sections: u64 = 9;
+    let mut rows: u64 = 9;
+    let r = exports::girth_totals(t, g, &mut sections, &mut rows);
+    print(word(r));
+    print(sections);
+    print(rows);
+}
+
+// Group count and digest of a table, its totals, those for a record too many, then its sections.
 fn print_table(t: &[u8], g: u64) {
     print(g);
     print(digest(t));
+    print_totals(t, g);
+    print_totals(t, std::num::wrapping_add_u64(g, 1));
     end_line();
     let mut key: u32 = 0;
     while key < 17 {

@@ -1,6 +1,6 @@
 //! The library's calls beside the exact model, on documents' figures and on random and damaged input.
 mod model;
-use model::{Big, Section};
+use model::{Big, Rows, Section};
 use std::collections::BTreeMap;
 
 struct Random(u64);
@@ -115,6 +115,15 @@ fn finish_both(table: &[u8], g: u64, key: u32) -> Result<i64, u32> {
     assert_eq!(calls::figure(table, g, key), figure);
     assert_eq!(calls::line(table, g, key), line);
     figure
+}
+
+/// The totals of a table, compared with the model.
+fn totals_both(table: &[u8], g: u64) -> Result<(u64, u64), u32> {
+    let before = table.to_vec();
+    let got = calls::totals(table, g).map(|t| (t.sections, t.rows));
+    assert_eq!(got, model::totals(table, g), "{g} records");
+    assert!(table == before, "the call only reads the table");
+    got
 }
 
 fn file(notes: &[u8], keys: &[u8], between: &[u8], values: &[u8], after: &[u8], values_first: bool) -> Vec<u8> {
@@ -243,6 +252,7 @@ fn every_refusal() {
     let (t, g) = of_values(&[21474836.5f64.to_bits()]);
     assert_eq!(finish_both(&t, g, 7), Err(15));
     assert_eq!(finish_both(&t, 2, 7), Err(7));
+    assert_eq!(totals_both(&[], 1), Err(7));
 }
 
 #[test]
@@ -483,6 +493,7 @@ fn adds() {
         for key in 0..span as u32 + 1 {
             finish_both(&t, g, key).ok();
         }
+        totals_both(&t, g).ok();
     }
     assert!(seen[0] > 100 && seen[7..].iter().all(|&n| n > 0), "{seen:?}");
 }
@@ -498,7 +509,9 @@ fn merges() {
         let (mut b, mut g2) = table(&mut r, others, width, span);
         damage(&mut r, &mut a, &mut g1);
         damage(&mut r, &mut b, &mut g2);
-        seen[merge_both(&mut a, g1, &b, g2).err().unwrap_or(0) as usize] += 1;
+        let answer = merge_both(&mut a, g1, &b, g2);
+        totals_both(&a, answer.unwrap_or(g1)).ok();
+        seen[answer.err().unwrap_or(0) as usize] += 1;
     }
     assert!([0, 7, 11, 12].iter().all(|&i| seen[i] > 0), "{seen:?}");
 }
@@ -534,6 +547,159 @@ fn same_bytes() {
             let (t, g) = &tables[0];
             let used = t[..64 * *g as usize].to_vec();
             assert_eq!(*expected.get_or_insert(used.clone()), used);
+            assert_eq!(totals_both(t, *g), Ok(Rows::of(&rows).totals()));
+        }
+    }
+}
+
+/// Tables that start empty: their bytes, group count, and the rows that accepted calls brought.
+struct Tables(Vec<(Vec<u8>, u64, Rows)>);
+
+impl Tables {
+    fn random(r: &mut Random) -> Tables {
+        let lengths: Vec<u64> = (0..3).map(|_| 64 * r.below(12) + r.below(64)).collect();
+        Tables(lengths.into_iter().map(|n| (r.bytes(n as usize), 0, Rows::default())).collect())
+    }
+
+    /// An add, at times with a column, a row or a work buffer that is refused.
+    fn add(&mut self, r: &mut Random, i: usize, span: u64) -> Result<u64, u32> {
+        let (t, g, held) = &mut self.0[i];
+        let n = r.below(6) as usize;
+        let rows: Vec<(u32, u64)> = r.rows(n).into_iter().map(|b| (r.below(span) as u32, b)).collect();
+        let (mut k, mut v) = columns(&rows);
+        let mut work = r.bytes(t.len());
+        match r.below(16) {
+            0 => k.push(0),
+            1 if n > 0 => v[8 * n - 2..].copy_from_slice(&[0xF0, 0x7F]),
+            2 => work.truncate(t.len().saturating_sub(1)),
+            _ => {}
+        }
+        let answer = add_both(t, *g, &k, &v, &mut work);
+        if let Ok(after) = answer {
+            *g = after;
+            held.take(&Rows::of(&rows));
+        }
+        answer
+    }
+
+    fn merge(&mut self, i: usize, j: usize) -> Result<u64, u32> {
+        let (second, g2, brought) = self.0[j].clone();
+        let (first, g1, held) = &mut self.0[i];
+        let answer = merge_both(first, *g1, &second, g2);
+        if let Ok(after) = answer {
+            *g1 = after;
+            held.take(&brought);
+        }
+        answer
+    }
+
+    /// The largest number of rows, after a look that every table has those of the calls.
+    fn look(&self) -> u64 {
+        for (t, g, held) in &self.0 {
+            assert_eq!(totals_both(t, *g), Ok(held.totals()));
+        }
+        self.0.iter().map(|t| t.2.totals().1).max().unwrap()
+    }
+}
+
+/// Lists of adds, merges and finishings, refused ones among them, with row counts up to the largest: after every call the totals are those of the
+/// rows that the calls brought.
+#[test]
+fn totals_after_calls() {
+    let mut r = Random(13);
+    let (mut seen, mut most) = ([0; 13], 0);
+    for _ in 0..60 {
+        let span = 1 + r.below(12);
+        let mut tables = Tables::random(&mut r);
+        assert_eq!(tables.look(), 0);
+        for _ in 0..150 {
+            let i = r.below(3) as usize;
+            let answer = match r.below(8) {
+                0 => finish_both(&tables.0[i].0, tables.0[i].1, r.below(span) as u32).map(|_| 0),
+                1 | 2 => tables.add(&mut r, i, span),
+                _ => tables.merge(i, (i + 1 + r.below(2) as usize) % 3),
+            };
+            most = most.max(tables.look());
+            seen[answer.err().filter(|e| *e < 13).unwrap_or(0) as usize] += 1;
+        }
+    }
+    assert!([0, 8, 9, 10, 11, 12].iter().all(|&i| seen[i] > 20) && seen[7] == 0, "{seen:?}");
+    assert!(most > 2 * 4294967295, "{most}");
+}
+
+/// Sound tables that no calls made: from no record to as many as there may be, with counts up to the largest, and what stands after them.
+#[test]
+fn totals_of_lent_tables() {
+    let full: Vec<u8> = (0..1026).flat_map(|key| Section { count: 4294967295, top: 0, totals: [0; 3] }.bytes(key)).collect();
+    for (g, rows) in [(0, 0), (1, 4294967295), (2, 8589934590), (1023, 4393751542785), (1024, 4398046510080)] {
+        for length in [64 * g, 64 * g + 63, full.len()] {
+            assert_eq!(totals_both(&full[..length], g as u64), Ok((g as u64, rows)));
+        }
+    }
+    for (length, g) in [(full.len(), 1025), (full.len(), 1026), (64 * 1024, 1025), (64 * 1024 - 1, 1024), (63, 1), (0, 1)] {
+        assert_eq!(totals_both(&full[..length], g), Err(7), "{length} bytes, {g} records");
+    }
+    let mut r = Random(14);
+    for turn in 0..400 {
+        let room = if turn % 20 == 0 { 1000 + r.below(26) } else { r.below(12) } as usize;
+        let (mut t, g) = table(&mut r, room.min(1024), room, 1 << 32);
+        let expected = totals_both(&t, g);
+        assert!(expected.is_ok_and(|(sections, rows)| sections == g && rows >= g));
+        let (used, after) = t.split_at_mut(64 * g as usize);
+        let again = used.to_vec();
+        // after the used bytes stand any others, or the same records once more
+        after.iter_mut().enumerate().for_each(|(i, x)| *x = if turn % 2 == 0 { r.next() as u8 } else { again.get(i).copied().unwrap_or(0) });
+        assert_eq!(totals_both(&t, g), expected);
+        // a table's first records are a table
+        totals_both(&t, r.below(g + 1)).unwrap();
+        for beyond in [t.len() as u64 / 64 + 1, g + (1 << 32), 1 << 63, u64::MAX] {
+            assert_eq!(totals_both(&t, beyond), Err(7), "{beyond} records");
+        }
+    }
+}
+
+/// Each condition of soundness broken alone, in every place of a table; after the used bytes it plays no part.
+#[test]
+fn totals_of_unsound_tables() {
+    let sound = Section { count: 3, top: 26, totals: [1 << 34, -5, 0] };
+    let with = |at: usize, words: &[u8]| {
+        let mut b = sound.bytes(0);
+        b[at..at + words.len()].copy_from_slice(words);
+        b
+    };
+    let record_of = |top: u32, totals: [i128; 3]| Section { count: 3, top, totals }.bytes(0);
+    let most = 3 << 39;
+    let unsound = [
+        Section { count: 0, top: 26, totals: [0; 3] }.bytes(0),
+        record_of(53, [0; 3]),
+        record_of(u32::MAX, [0; 3]),
+        with(12, &[1, 0, 0, 0]),
+        with(12, &[0, 0, 0, 128]),
+        // a residue of 2^50, in a total of 0
+        with(16, &[(1u64 << 50).to_le_bytes(), u64::MAX.to_le_bytes()].concat()),
+        record_of(26, [most + 1, 0, 0]),
+        record_of(26, [0, -most - 1, 0]),
+        record_of(26, [0, 0, most + 1]),
+        record_of(0, [1, 1, 0]),
+        record_of(0, [1, 0, 1]),
+        record_of(1, [1, 1, -1]),
+    ];
+    for g in 1..6u64 {
+        let keyed: Vec<u8> = (0..6u32).flat_map(|i| sound.bytes(10 + 10 * i)).collect();
+        assert_eq!(totals_both(&keyed, g), Ok((g, 3 * g)));
+        for at in 0..6usize {
+            let expected = if at < g as usize { Err(7) } else { Ok((g, 3 * g)) };
+            for record in &unsound {
+                let mut t = keyed.clone();
+                t[64 * at + 4..64 * at + 64].copy_from_slice(&record[4..]);
+                assert_eq!(totals_both(&t, g), expected, "{record:?} as record {at} of {g}");
+            }
+            // a key that does not rise above the one before it
+            for key in [10 * at as u32, 10 * at as u32 - (at > 0) as u32] {
+                let mut t = keyed.clone();
+                t[64 * at..64 * at + 4].copy_from_slice(&key.to_le_bytes());
+                assert_eq!(totals_both(&t, g), if at == 0 { Ok((g, 3 * g)) } else { expected }, "key {key} in record {at} of {g}");
+            }
         }
     }
 }
@@ -801,7 +967,7 @@ fn sides_of_any_rows() {
 
 fn report_both(file: &[u8], room: usize) -> String {
     let expected = model::report(file);
-    let before: Vec<u8> = (0..room).map(|i| i as u8).collect();
+    let before: Vec<u8> = (0..room).map(|i| !(i as u8)).collect();
     let mut out = before.clone();
     match calls::report(file, &mut out) {
         Ok(n) => {
@@ -816,10 +982,11 @@ fn report_both(file: &[u8], room: usize) -> String {
 #[test]
 fn reports() {
     let mut r = Random(6);
-    // lines by the sign of their sum, 2 for none, and their last word, which is the side or the refusal's number
+    // lines of sections by the sign of their sum, 2 for none, and their last word, which is the side or the refusal's number; then totals by the number
+    // of sections, and refused files and adds
     let mut seen: BTreeMap<(u64, String), u32> = BTreeMap::new();
     for _ in 0..1500 {
-        let n = r.below(90) as usize;
+        let n = if r.chance(30) { 0 } else { r.below(90) } as usize;
         let span = [1, 5, 64, 70, 1 << 32][r.below(5) as usize];
         let key = |r: &mut Random| if r.chance(9) { u32::MAX } else { r.below(span) as u32 };
         let rows: Vec<(u32, u64)> = r.rows(n).into_iter().map(|b| (key(&mut r), b)).collect();
@@ -836,15 +1003,20 @@ fn reports() {
         let room = if r.chance(2) { 4096 } else { r.below(3000) as usize };
         let text = report_both(&f, room);
         if room == 4096 {
-            for line in text.lines().skip(1) {
+            for line in text.lines().filter(|l| !l.starts_with("section")) {
                 let words: Vec<&str> = line.split(' ').collect();
-                let sign = u64::from_str_radix(words[2], 16).map_or(2, |bits| bits >> 63);
-                *seen.entry((sign, words.last().unwrap().to_string())).or_default() += 1;
+                let kind = match words[0] {
+                    "total" => (3, words[1]),
+                    "refused" => (4, words[1]),
+                    _ => (u64::from_str_radix(words[2], 16).map_or(2, |bits| bits >> 63), words[words.len() - 1]),
+                };
+                *seen.entry((kind.0, kind.1.to_string())).or_default() += 1;
             }
         }
     }
-    for (sign, last) in [(0, "-1"), (0, "0"), (0, "1"), (0, "15"), (1, "-1"), (1, "0"), (1, "1"), (1, "15"), (2, "14")] {
-        assert!(seen.get(&(sign, last.to_string())).is_some_and(|&n| n > 10), "{sign} {last}: {seen:?}");
+    let sections = [(0, "-1"), (0, "0"), (0, "1"), (0, "15"), (1, "-1"), (1, "0"), (1, "1"), (1, "15"), (2, "14")];
+    for (kind, word) in sections.into_iter().chain([(3, "0"), (3, "1"), (4, "3"), (4, "10"), (4, "12")]) {
+        assert!(seen.get(&(kind, word.to_string())).is_some_and(|&n| n > 10), "{kind} {word}: {seen:?}");
     }
 }
 
@@ -855,8 +1027,10 @@ fn longest_report() {
     let lines: Vec<(u32, u64)> = (0..64).flat_map(|i| (0..85).map(move |j| (u32::MAX - 63 + i, if j < 2 { rows[j] } else { 0 }))).collect();
     let (k, v) = columns(&lines);
     let text = report_both(&file(&[], &k, &[], &v, &[], false), 4096);
-    assert!(text.lines().skip(1).all(|l| l.starts_with("42949672") && l.ends_with(" 85 C1747AE147851EB8 -2147483647 -1")), "{text}");
-    assert_eq!(text.len(), 34 + 64 * 46);
+    let sections = &text.lines().collect::<Vec<_>>()[1..65];
+    assert!(sections.iter().all(|l| l.starts_with("42949672") && l.ends_with(" 85 C1747AE147851EB8 -2147483647 -1")), "{text}");
+    assert!(text.ends_with("\ntotal 64 5440\n"));
+    assert_eq!(text.len(), 34 + 64 * 46 + 14);
 }
 
 /// Each file of samples/: its name tells the refusal, and its report stands beside it.
@@ -896,9 +1070,10 @@ fn made_files() {
     };
     let (good, data) = make("# two sections\n1 1.0\n2 0.125\n\n1 0.5\n");
     assert!(good && read_both(&data) == Ok(3) && rewritten(&data) == data);
-    assert_eq!(report_both(&data, 4096), "section rows bits hundredths side\n1 2 3FF8000000000000 150 0\n2 1 3FC0000000000000 13 0\n");
+    assert_eq!(report_both(&data, 4096), "section rows bits hundredths side\n1 2 3FF8000000000000 150 0\n2 1 3FC0000000000000 13 0\ntotal 2 3\n");
     let most: String = (0..5460).map(|i| format!("{} {}.25\n", i % 64, i)).collect();
     let (good, data) = make(&most);
     assert!(good && read_both(&data) == Ok(5460) && rewritten(&data) == data);
+    assert!(report_both(&data, 4096).ends_with("\ntotal 64 5460\n"));
     assert!(make("").0 && !make(&(most + "1 1\n")).0 && !make("1 inf\n").0 && !make("4294967296 1\n").0 && !make("x\n").0);
 }

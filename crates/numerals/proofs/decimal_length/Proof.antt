@@ -4,20 +4,20 @@ use mathlib.Core.Path.{_≡_, refl}
 use native.Mathlib.Omega.{arith}
 use lib.ListN.{length}
 use Rattle.numerals.specs.Numerals.{decimal}
-use Rattle.numerals.specs.Steps.{longestDecimal}
+use Rattle.numerals.specs.Steps.{longestU64}
 use Rattle.numerals.proofs.Digits.{length-one, length-more}
-use Rattle.numerals.proofs.Size.{length-decimal}
+use Rattle.numerals.proofs.Size.{length-u64}
 use Rattle.numerals.proofs.decimal_length.Statement.{statement}
 use Rattle.numerals.proofs.decimal_length.Tie as tie
 
 abbrev Inv-loop : tie.InvT-loop
-Inv-loop n y₀ w₀ y w = (length (decimal y) + w ≡ length (decimal n) + 1) × (length (decimal n) ≤ longestDecimal)
+Inv-loop n y₀ w₀ y w = (length (decimal y) + w ≡ length (decimal n) + 1) × (length (decimal n) ≤ longestU64)
 
 abbrev μ-loop : tie.MeasureT-loop
 μ-loop n y₀ w₀ y w = y
 
 loop-holds : tie.Need-loop-holds Inv-loop μ-loop
-loop-holds c = (refl, length-decimal (c .args .n) (omega arith))
+loop-holds c = (refl, length-u64 (c .args .n) (omega arith))
 
 loop-again : tie.Need-loop-again Inv-loop μ-loop
 loop-again c =
