@@ -281,10 +281,194 @@ def test_totals_of_lent_tables():
             assert girths.totals(table, record) == (record, record * 4294967295)
 
 
+def is_sound(records):
+    """Whether records make a sound table, by document 01's list of conditions."""
+    last = -1
+    for at in range(0, len(records), 64):
+        key, count, top, zero, *words = struct.unpack_from('<IIIIQqQqQq', records, at)
+        totals = [c * 2 ** 50 + s for s, c in zip(words[::2], words[1::2])]
+        if key <= last or count == 0 or top > 52 or zero != 0 or any(s >= 2 ** 50 for s in words[::2]):
+            return False
+        if any(abs(t) > count * 2 ** 39 or t != 0 and top < i for i, t in enumerate(totals)):
+            return False
+        last = key
+    return True
+
+
+def saved(records, mark=b'TABL'):
+    g = len(records) // 64
+    return records + struct.pack('<III', g, 64 * g + 16, 0) + mark
+
+
+def loaded(file, table):
+    """What a load has to answer, and the bytes that it has to leave in a table."""
+    if len(file) > 65536 or len(file) < 16 or file[-4:] != b'TABL':
+        return (-1 if len(file) > 65536 else -2 if len(file) < 16 else -3), table
+    g, distance, zero = struct.unpack('<III', file[-16:-4])
+    if (len(file), distance, zero) != (64 * g + 16, 64 * g + 16, 0):
+        return -19, table
+    if len(table) < 64 * g or not is_sound(file[:-16]):
+        return (-16 if len(table) < 64 * g else -7), table
+    return g, file[:-16] + table[64 * g:]
+
+
+def check_load(file, table):
+    """The answer of a load, after a look at every byte of the table."""
+    before, into = bytes(file), bytearray(table)
+    answer, left = loaded(before, bytes(table))
+    try:
+        found = girths.load(file, into)
+    except girths.Refused as e:
+        found = -e.number
+    assert (found, into, bytes(file)) == (answer, left, before), (found, answer)
+    return found
+
+
+def many_records(n):
+    return b''.join(struct.pack('<IIIIQqQqQq', 5 * i + 1, 4294967295 - i, 1 + i % 52, 0, i, -1, 7, 0, 0, 0) for i in range(n))
+
+
+def test_save():
+    r = random.Random(5)
+    full = many_records(1026)
+    for g in 0, 1, 2, 1022, 1023:
+        for table in full[:64 * g], bytearray(full[:64 * g] + r.randbytes(99)), full:
+            before = bytes(table)
+            file = girths.save(table, g)
+            assert type(file) is bytes and file == saved(full[:64 * g]) and table == before
+            assert check_load(file, r.randbytes(64 * g)) == check_load(file, r.randbytes(70000)) == g
+    refused(18, girths.save, full, 1024)
+    refused(18, girths.save, full[:65536], 1024)
+    for g in 1025, 1026, 2 ** 32, 2 ** 32 + 1, 2 ** 58, 2 ** 58 + 1, 2 ** 63, 2 ** 64 - 1:
+        refused(7, girths.save, full, g)
+    refused(7, girths.save, full[:65535], 1024)
+    refused(7, girths.save, b'', 1)
+    unsound = bytearray(full)
+    unsound[64 * 1023 + 12] = 1
+    refused(7, girths.save, unsound, 1024)
+    assert girths.save(unsound, 1023) == saved(full[:64 * 1023])
+
+
+def test_output_of_save():
+    """Outputs of any length, which the call of the module makes itself: 7, then 18, then 16."""
+    full = many_records(1024)
+    unsound = full[:-64] + bytes(64)
+    for table, g, room, answer in (
+            (full, 2, 0, -16), (full, 2, 143, -16), (full, 2, 144, 144), (full, 2, 145, 144), (full, 2, 70000, 144), (full, 0, 15, -16), (full, 0, 16, 16),
+            (full, 1023, 65487, -16), (full, 1023, 65488, 65488), (full, 1023, 65489, 65488), (full, 1024, 0, -18), (full, 1024, 65551, -18), (full, 1024, 70000, -18),
+            (unsound, 1024, 0, -7), (unsound, 1024, 70000, -7), (full, 2 ** 58, 0, -7), (full, 2 ** 64 - 1, 0, -7)):
+        out = bytearray(b'\xa5' * room)
+        lent = girths._Lent('', table), girths._Lent('', out, writable=True)
+        assert girths._library().girth_save(*lent[0].words, g, *lent[1].words) == answer, (g, room)
+        assert out == (saved(table[:64 * g]) + b'\xa5' * (room - answer) if answer > 0 else b'\xa5' * room), (g, room)
+
+
+def test_damaged_saves():
+    """Every byte of a small saved table changed to several values, and the file cut and made longer at either end."""
+    r, seen = random.Random(6), Counter()
+    records = many_records(2)
+    file = saved(records)
+    for at in range(len(file)):
+        for value in {file[at] ^ 1, file[at] ^ 128, file[at] ^ 255, file[at] + 1 & 255, file[at] - 1 & 255, 0, 255, r.randrange(256)} - {file[at]}:
+            damaged = file[:at] + bytes([value]) + file[at + 1:]
+            seen[check_load(damaged, b'\xa5' * r.choice((128, 128, 129, 300)))] += 1
+            seen[check_load(damaged, b'\xa5' * 127)] += 1
+    for n in range(1, len(file) + 1):
+        more = r.randbytes(n)
+        for damaged in file[n:], file[:-n], more + file, file + more, file[:n] + file:
+            seen[check_load(bytearray(damaged), b'\xa5' * 400)] += 1
+    assert set(seen) == {2, -2, -3, -7, -16, -19} and min(seen.values()) > 10, seen
+
+
+def test_full_table_in_two_parts():
+    """A table of 1,024 groups, which is too many for one file, saved as its first records and its last ones, loaded, merged and added to."""
+    rows = [(key * 4000000, x) for key in range(1024) for x in (0.1 * key, -96.0)]
+    whole, g = table_of(rows, groups=1024)
+    refused(18, girths.save, whole, g)
+    for cut in 1, 512, 1023:
+        files = girths.save(whole, cut), girths.save(whole[64 * cut:], g - cut)
+        parts = bytearray(b'\xa5' * 65536), bytearray(b'\xa5' * 64 * (g - cut))
+        counts = [girths.load(file, part) for file, part in zip(files, parts)]
+        assert girths.merge(parts[0], counts[0], parts[1], counts[1]) == g and parts[0] == whole
+        more = [(4000000, 1e-30), (0, 2.0 ** 70)]
+        never = bytearray(whole)
+        assert girths.add(parts[0], g, *pack(more)) == girths.add(never, g, *pack(more)) == g and parts[0] == never != whole
+
+
+def test_order_of_loading():
+    """A saved table with any of its faults: the first one in the card's order is told, and the table keeps its bytes, sound or not."""
+    for faults in range(64):
+        mark, length, distance, zero, short, unsound = (faults >> i & 1 for i in range(6))
+        file = many_records(1) + (bytes(64) if unsound else many_records(2)[64:])
+        file += struct.pack('<III', 2 + length, 144 - distance, zero << 31) + (b'LAST' if mark else b'TABL')
+        answer = -3 if mark else -19 if length or distance or zero else -16 if short else -7 if unsound else 2
+        for fill in b'\xa5' * 256, many_records(6)[128:]:
+            assert check_load(file, fill[:127] if short else fill) == answer, faults
+    assert check_load(saved(many_records(1024)), b'\xa5' * 70000) == -1
+    assert check_load(b'\xa5' * 65537, b'') == -1 and check_load(b'\xa5' * 65536, b'') == -3
+    assert check_load(bytes(49) + saved(many_records(1023)), b'\xa5' * 70000) == -1
+    assert check_load(bytes(48) + saved(many_records(1023)), b'\xa5' * 70000) == -19
+    assert check_load(b'TABL', b'') == check_load(saved(b'')[1:], b'\xa5' * 64) == -2
+    refused(16, girths.load, saved(many_records(3)), bytearray(191))
+
+
+def test_saved_samples():
+    """Every saved table of samples/ gives the refusal of its name, or the table of the patch file beside it."""
+    files = sorted((ROOT / 'samples').glob('*.table'))
+    kept = [path for path in files if not path.name.startswith('refused-')]
+    assert len(kept) >= 4 and len(files) - len(kept) >= 5
+    for path in files:
+        data = path.read_bytes()
+        answer = check_load(data, b'\xa5' * 4096)
+        assert girths.report(data) == (b'refused 5\n' if answer == -3 else b'refused 3\n'), path
+        if path not in kept:
+            assert answer == -int(path.name.split('-')[1]), path
+            continue
+        patch, table = path.with_suffix('.patch').read_bytes(), bytearray(4096)
+        columns = girths.read(patch)
+        assert girths.add(table, 0, columns.keys, columns.values) == answer and girths.save(table, answer) == data, path
+        assert check_load(patch, b'\xa5' * 4096) == -3
+        other = bytearray(b'\xa5' * 4096)
+        g = girths.load(data, other)
+        lines = ''.join(record_line(other, g, key) for key in keys_of(table, answer))
+        assert HEAD + lines + 'total {} {}\n'.format(*girths.totals(other, g)) == path.with_suffix('.report').read_text(), path
+
+
+def test_interrupted_tables():
+    """Adds, merges, saves and loads in any order: a loaded table has the rows of the saved one, and goes on as the table that lived on."""
+    r, seen = random.Random(7), Counter()
+    for _ in range(60):
+        tables = [(bytearray(r.randbytes(64 * n)), 0, []) for n in (2, 8, r.randrange(1, 9))]
+        shelf = [(b'', [])]
+        for _ in range(40):
+            i, kind = r.randrange(3), r.choice(('add', 'add', 'merge', 'save', 'load'))
+            table, g, held = tables[i]
+            second, g2, brought = tables[i - r.randrange(1, 3)]
+            rows = [(r.randrange(7), r.choice((1.5, -0.1, 2.0 ** 900, r.random()))) for _ in range(r.randrange(4))]
+            try:
+                if kind == 'add':
+                    tables[i] = table, girths.add(table, g, *pack(rows)), held + rows
+                elif kind == 'merge':
+                    tables[i] = table, girths.merge(table, g, second, g2), held + brought
+                elif kind == 'save':
+                    shelf.append((girths.save(table, g), held))
+                else:
+                    file, rows = r.choice(shelf)
+                    tables[i] = table, girths.load(file, table), rows
+                seen[kind] += 1
+            except girths.Refused as e:
+                seen[kind, e.number] += 1
+            table, g, held = tables[i]
+            never, many = table_of(held)
+            assert many == g and never[:64 * g] == table[:64 * g] and girths.totals(table, g) == (len({key for key, _ in held}), len(held))
+            assert [record_line(table, g, key) for key in keys_of(table, g)] == [record_line(never, g, key) for key in keys_of(never, g)]
+    assert set(seen) == {'add', 'merge', 'save', 'load', ('add', 12), ('merge', 12), ('load', 2), ('load', 16)} and min(seen.values()) > 10, seen
+
+
 def test_same_words_in_rust():
     text = (ROOT / 'bindings' / 'rust' / 'src' / 'lib.rs').read_text()
     words = re.findall(r'^    "(.*)",$', text[text.index('const GROUNDS'):text.index('];', text.index('const GROUNDS'))], re.M)
-    assert len(words) == 17 and girths.GROUNDS == {n: words[n - 1] for n in range(1, 18) if n != 16}
+    assert len(words) == 19 and girths.GROUNDS == {n: words[n - 1] for n in range(1, 20)}
 
 
 def test_any_order():
@@ -335,6 +519,21 @@ def test_checks_of_arguments():
     halves = memoryview(whole)[:128], memoryview(whole)[128:]
     assert girths.merge(halves[0], 0, halves[1], 0) == 0
     assert girths.add(halves[0], 0, *pack([(1, 1.0)]), halves[1]) == 1 and girths.sum(whole, 1, 1) == (1.0, 0)
+
+
+def test_checks_of_saving():
+    t = bytearray(128)
+    raises(TypeError, girths.save, 'text', 0)
+    raises(TypeError, girths.save, t, 0.0)
+    raises(ValueError, girths.save, t, -1)
+    raises(ValueError, girths.save, t, 2 ** 64)
+    raises(TypeError, girths.load, 'text', t)
+    raises(TypeError, girths.load, b'', bytes(64))
+    raises(TypeError, girths.load, memoryview(bytes(64)).cast('I'), t)
+    raises(ValueError, girths.load, memoryview(t)[112:], t)
+    whole = bytearray(saved(many_records(2)) + b'\xa5' * 128)
+    halves = memoryview(whole)[:144], memoryview(whole)[144:]
+    assert girths.load(*halves) == 2 and whole == saved(many_records(2)) + many_records(2)
 
 
 def load(root, **environment):

@@ -1,5 +1,6 @@
 /* A C program over the exported calls: the report of a file by way of girth_report, and again from read, add, line and totals; sums of every side;
- * totals of tables that no rows made; then the file written from its two columns, and what girth_write refuses. */
+ * totals of tables that no rows made; then the file written from its two columns, and what girth_write refuses; last the table saved and loaded, and what
+ * girth_save and girth_load refuse. */
 #include "girths.h"
 #include <inttypes.h>
 #include <stdio.h>
@@ -60,12 +61,16 @@ static int gives_totals(size_t length, uint64_t g, int64_t answer, uint64_t sect
     return girth_totals(lent, length, g, &s, &r) == answer && s == sections && r == rows && memcmp(before, lent, sizeof lent) == 0;
 }
 
-/* As many records as there may be, with as many rows as they may have; then the last one not sound. */
-static int counts(void) {
+static void fill_lent(void) {
     for (uint32_t i = 0; i < sizeof lent / 64; i++) {
         const uint32_t fields[] = {i, 4294967295, 0, 0};
         memcpy(lent + 64 * i, fields, sizeof fields);
     }
+}
+
+/* As many records as there may be, with as many rows as they may have; then the last one not sound. */
+static int counts(void) {
+    fill_lent();
     static const struct { size_t length; uint64_t g; int64_t answer; uint64_t sections, rows; } tables[] = {
         {0, 0, 0, 0, 0}, {sizeof lent, 0, 0, 0, 0}, {64, 1, 0, 1, 4294967295}, {sizeof lent, 2, 0, 2, 8589934590},
         {64 * 1024, 1024, 0, 1024, 4398046510080}, {sizeof lent, 1024, 0, 1024, 4398046510080}, {sizeof lent, 1023, 0, 1023, 4393751542785},
@@ -142,6 +147,97 @@ static int rewrites(const uint8_t *keys, const uint8_t *values, uint32_t rows, i
            writes(once, once + 4 * (size_t)rows, rows, sizeof out) && memcmp(once, out, length) == 0;
 }
 
+/* A call of girth_save on the first bytes of the table lent, which it only reads, and on an output of which every byte is 0xA5. */
+static int gives_save(size_t length, uint64_t g, size_t room, int64_t answer) {
+    memcpy(before, lent, sizeof lent);
+    memset(out, 0xA5, sizeof out);
+    if (girth_save(lent, length, g, out, room) != answer || memcmp(before, lent, sizeof lent) != 0) return 0;
+    if (answer < 0) return untouched_from(0);
+    const uint32_t fields[] = {(uint32_t)g, (uint32_t)(64 * g + 16), 0, 0x4C424154};
+    for (int i = 0; i < 16; i++) {
+        if (out[64 * g + (size_t)i] != (uint8_t)(fields[i / 4] >> 8 * (i % 4))) return 0;
+    }
+    return memcmp(out, lent, 64 * g) == 0 && untouched_from((size_t)answer);
+}
+
+/* 7, then 18, then 16, each also where those after it hold too; and files of no record up to the most. */
+static int saves(void) {
+    static const struct { size_t length; uint64_t g; size_t room; int64_t answer; } calls[] = {
+        {sizeof lent, 1025, sizeof out, -7}, {sizeof lent, 1025, 0, -7}, {63, 1, sizeof out, -7}, {64 * 1024 - 1, 1024, 0, -7},
+        {sizeof lent, (uint64_t)1 << 58, 16, -7}, {sizeof lent, (uint64_t)1 << 63, 16, -7}, {sizeof lent, UINT64_MAX, 0, -7}, {64, ((uint64_t)1 << 32) + 1, 80, -7},
+        {sizeof lent, 1024, sizeof out, -18}, {64 * 1024, 1024, 65552, -18}, {sizeof lent, 1024, 65551, -18}, {sizeof lent, 1024, 0, -18},
+        {sizeof lent, 1023, 65487, -16}, {64, 1, 79, -16}, {0, 0, 15, -16}, {0, 0, 0, -16},
+        {sizeof lent, 1023, 65488, 65488}, {64 * 1023, 1023, sizeof out, 65488}, {64, 1, 80, 80}, {sizeof lent, 2, 145, 144}, {0, 0, 16, 16}, {sizeof lent, 0, 17, 16},
+    };
+    fill_lent();
+    for (size_t i = 0; i < sizeof calls / sizeof *calls; i++) {
+        if (!gives_save(calls[i].length, calls[i].g, calls[i].room, calls[i].answer)) return 0;
+    }
+    lent[64 * 1023 + 12] = 1;
+    return gives_save(sizeof lent, 1024, 0, -7) && gives_save(sizeof lent, 1024, sizeof out, -7) && gives_save(sizeof lent, 1023, sizeof out, 65488);
+}
+
+/* A call of girth_load on so many bytes of the file kept, which it only reads, and on a table of which every byte is 0xA5. */
+static uint8_t kept[64 * 1024 + 16], given[sizeof kept], into[sizeof kept];
+
+static int gives_load(size_t length, size_t room, int64_t answer) {
+    memcpy(given, kept, sizeof kept);
+    memset(into, 0xA5, sizeof into);
+    if (girth_load(kept, length, into, room) != answer || memcmp(given, kept, sizeof kept) != 0) return 0;
+    size_t used = answer > 0 ? 64 * (size_t)answer : 0;
+    for (size_t i = used; i < sizeof into; i++) {
+        if (into[i] != 0xA5) return 0;
+    }
+    return memcmp(into, given, used) == 0;
+}
+
+/* The file kept becomes the first g records of the table lent, and a trailer of these fields. */
+static void keep(uint32_t g, uint32_t count, uint32_t distance, uint32_t zero, const char *mark) {
+    memcpy(kept, lent, 64 * (size_t)g);
+    uint8_t *trailer = kept + 64 * (size_t)g;
+    const uint32_t fields[] = {count, distance, zero};
+    memcpy(trailer, fields, sizeof fields);
+    memcpy(trailer + sizeof fields, mark, 4);
+}
+
+/* 1, 2, 3, 19, 16 and 7 in this order, each also where those after it hold too; files of no record up to the most, in tables of several lengths. */
+static int loads(void) {
+    static const struct { uint32_t g, count, distance, zero; const char *mark; int64_t short_table, answer; } files[] = {
+        {2, 2, 144, 0, "LAST", -3, -3}, {2, 3, 128, 1, "TABM", -3, -3}, {2, 3, 144, 0, "TABL", -19, -19}, {2, 1, 144, 0, "TABL", -19, -19}, {2, 1, 80, 0, "TABL", -19, -19},
+        {2, 2, 128, 0, "TABL", -19, -19}, {2, 2, 145, 0, "TABL", -19, -19}, {2, 2, 144, 1, "TABL", -19, -19}, {2, 2, 144, 1u << 31, "TABL", -19, -19},
+        {2, 2 + (1u << 26), 144, 0, "TABL", -19, -19}, {2, 2, 144, 0, "TABL", -16, 2}, {1023, 1023, 65488, 0, "TABL", -16, 1023}, {1024, 1024, 65552, 0, "TABL", -1, -1},
+    };
+    fill_lent();
+    for (int unsound = 0; unsound < 2; unsound++) {
+        lent[4] = lent[5] = lent[6] = lent[7] = unsound ? 0 : 255; /* a row count of 0 */
+        for (size_t i = 0; i < sizeof files / sizeof *files; i++) {
+            size_t length = 64 * (size_t)files[i].g + 16;
+            int64_t answer = unsound && files[i].answer > 0 ? -7 : files[i].answer;
+            keep(files[i].g, files[i].count, files[i].distance, files[i].zero, files[i].mark);
+            if (!gives_load(length, length - 17, files[i].short_table) || !gives_load(length, length - 16, answer) || !gives_load(length, sizeof into, answer)) return 0;
+        }
+    }
+    keep(0, 0, 16, 0, "TABL");
+    if (!gives_load(16, 0, 0) || !gives_load(16, sizeof into, 0) || !gives_load(15, sizeof into, -2) || !gives_load(0, 0, -2)) return 0;
+    return gives_load(17, sizeof into, -3) && gives_load(65537, 0, -1);
+}
+
+/* A table of g records saved, loaded into another and saved again; what is loaded has the totals and the first line of what was saved. */
+static int goes_on(uint64_t g, uint64_t rows) {
+    memset(kept, 0xA5, sizeof kept);
+    int64_t length = girth_save(table, sizeof table, g, kept, sizeof kept);
+    if (length != (int64_t)(64 * g + 16) || !gives_load((size_t)length, sizeof into, (int64_t)g)) return 0;
+    uint64_t sections, all, count[2] = {7, 8}, bits[2] = {7, 8};
+    int64_t figure[2] = {7, 8}, side[2] = {7, 8};
+    uint32_t key;
+    memcpy(&key, table, sizeof key);
+    if (girth_totals(into, sizeof into, g, &sections, &all) != 0 || sections != g || all != rows || memcmp(into, table, 64 * g) != 0) return 0;
+    if (girth_line(table, sizeof table, g, key, count, bits, figure, side) != girth_line(into, sizeof into, g, key, count + 1, bits + 1, figure + 1, side + 1)) return 0;
+    if (count[0] != count[1] || bits[0] != bits[1] || figure[0] != figure[1] || side[0] != side[1]) return 0;
+    memset(out, 0xA5, sizeof out);
+    return girth_save(into, sizeof into, g, out, sizeof out) == length && memcmp(out, kept, (size_t)length) == 0 && untouched_from((size_t)length);
+}
+
 int main(int argc, char **argv) {
     FILE *in = argc == 2 ? fopen(argv[1], "rb") : NULL;
     if (!in) return 2;
@@ -182,6 +278,9 @@ int main(int argc, char **argv) {
     if (!rewrites(file + keys, file + values, (uint32_t)rows, n)) return 13;
     if (!finishes()) return 14;
     if (!counts()) return 16;
+    if (!saves()) return 17;
+    if (!loads()) return 18;
+    if (!goes_on((uint64_t)g, (uint64_t)rows)) return 19;
     fwrite(text, 1, (size_t)n, stdout);
     return 0;
 }

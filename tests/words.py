@@ -26,11 +26,13 @@ ONE = {
     "Answer": "what a call answers: the type, its values in a list of calls, the clause of a contract",
     "FigureAnswer": "a mill figure's answer: the enum, and what it says as an outcome",
     "LineAnswer": "a finished line's answer: the enum, and what it says as an outcome",
-    "TableAnswer": "an add's or a merge's answer: the enum, and what it says as an outcome",
+    "TableAnswer": "an add's, a merge's or a load's answer: the enum, and what it says as an outcome",
     "TotalsAnswer": "the totals' answer: the enum, and what it says as an outcome",
     "OutputAnswer": "the answer of a call that is lent a buffer for its output: the enum, and what it says as an outcome",
     "add": "the call that adds two columns, and its entry in a list of calls",
     "merge": "the call that merges two tables, and its entry in a list of calls",
+    "save": "the call that saves a table, and its entry in a list of calls",
+    "load": "the call that loads a saved table, and its entry in a list of calls",
     "sum": "a section's sum: the call, its question, its field in a line, its entry in the bench book, a double or the answer that has it",
     "figure": "a section's mill figure: the call, its question, its field in a line, the case that carries it",
     "line": "a section's finished line: the call, its question, the case that carries it",
@@ -48,7 +50,8 @@ ONE = {
     "TooManyRows": "refusal 11 and its condition",
     "NoRoom": "refusal 12's condition, while rows are placed and in an example",
     # files and columns
-    "file": "the bytes of a patch file",
+    "file": "the bytes of a file: of a patch file, or of a saved table",
+    "mark": "the four bytes that end a file: a patch file's, and what a trailer is given",
     "keys": "a key column",
     "values": "a value column",
     "kind": "a kind of value",
@@ -83,6 +86,7 @@ ONE = {
     "is_zero": "equal to 0",
     "capacity": "document 01's capacity: the definition and the function that gives it",
     "groups": "a number of groups",
+    "group-count": "a table's group count: the clause about it, and the field of a saved table",
     "table": "a table: its bytes as they are lent, the buffer and group count that a list of calls leaves",
     "TableTotals": "how many sections and rows a table has: the struct, and the definition that gives it",
     "Place": "where a key stands among records: the enum, and the definition that gives it",
@@ -98,6 +102,7 @@ ONE = {
     "HalfUp": "an exact half goes up: the record, and the field that says so",
     # examples
     "computed": "that the definitions give what the examples expect",
+    "input": "the file of an example",
     "expected": "what an example has to give",
     "exampleRows": "the rows of an example",
     "BenchFigure": "a figure of the bench book",
@@ -105,7 +110,7 @@ ONE = {
 # parameters of two types
 TWO_TYPES = {"sum", "side"}
 ONE |= {f"limb{i}": "the bound of a limb" for i in range(4)}
-ONE |= {f"of-{call}": "what is said of this call's contract" for call in ("keys", "values", "read", "key-start", "value-start", "write", "report", "girth-read", "girth-write", "girth-report", "girth-sum", "girth-figure", "girth-line", "girth-totals")}
+ONE |= {f"of-{call}": "what is said of this call's contract" for call in ("keys", "values", "read", "key-start", "value-start", "write", "report", "girth-read", "girth-write", "girth-report", "girth-sum", "girth-figure", "girth-line", "girth-totals", "save", "load", "girth-save", "girth-load")}
 
 NAME = r"[^\s:(){}.,;]+"
 

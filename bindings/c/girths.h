@@ -1,5 +1,6 @@
 /* The calls of the proved library, for C. Build the archive with `rt staticlib exports`, and link target/staticlib/libexports.a; example.c
- * beside this file has the command. docs/FORMATS.md has the patch file, the table and the report byte by byte, docs/RULES.md the refusals.
+ * beside this file has the command. docs/FORMATS.md has the patch file, the table, the saved table and the report byte by byte, docs/RULES.md the
+ * refusals.
  *
  * A slice is a pointer and a length in bytes. The pointer is not null, even for length 0, and no lent buffer overlaps another that is
  * lent for writing. A call returns a number of at least 0, or minus the refusal's number; a number that it gives by a pointer is 0 when it
@@ -43,6 +44,15 @@ int64_t girth_line(const uint8_t *table, size_t table_len, uint64_t g, uint32_t 
 
 /* How many sections and how many rows a table of g records has, the rows being the row counts of its records added up. The answer is 0, or -7. */
 int64_t girth_totals(const uint8_t *table, size_t table_len, uint64_t g, uint64_t *sections, uint64_t *rows);
+
+/* Writes a saved table, g records and a trailer of 16 bytes, at the front of out: the file's length, 64g + 16. Refused, in this order: -7 where the
+ * table is not sound, -18 where g is more than 1,023, -16 where out is shorter than the file. The bytes of out after the file are untouched. */
+int64_t girth_save(const uint8_t *table, size_t table_len, uint64_t g, uint8_t *out, size_t out_len);
+
+/* Reads a saved table into the front of a table: its group count g. What the table held before is given up; its bytes after the g records are
+ * untouched. Refused, in this order: -1, -2 and -3 as in girth_read, with the mark of a saved table, -19 where the length, the distance or the zero
+ * field is wrong, -16 where the table is shorter than 64g bytes, -7 where the records are not sound. */
+int64_t girth_load(const uint8_t *file, size_t file_len, uint8_t *table, size_t table_len);
 
 /* The report of a patch file, at the front of out: the length of its text, at most 4,096 bytes, or -16 where out is shorter than the text. */
 int64_t girth_report(const uint8_t *file, size_t file_len, uint8_t *out, size_t out_len);

@@ -16,6 +16,10 @@
     girths.Refused: refused 13: the section has no row
     >>> girths.write(columns.keys, columns.values) == file
     True
+    >>> saved = girths.save(table, g)
+    >>> other = bytearray(64 * 64)
+    >>> girths.load(saved, other), other == table
+    (2, True)
 
 A table is a writable buffer, 64 bytes a section, with a group count g that the caller holds; it starts at 0. What a table holds depends on the
 multiset of its rows alone. A call that is refused raises Refused and changes no byte of a table. docs/FORMATS.md has the bytes, docs/RULES.md
@@ -33,13 +37,13 @@ import subprocess
 import tempfile
 from typing import NamedTuple
 
-__all__ = ['Columns', 'Line', 'NotBuilt', 'Refused', 'Sum', 'Totals', 'add', 'bits', 'figure', 'line', 'merge', 'read', 'report', 'sum', 'totals', 'write']
+__all__ = ['Columns', 'Line', 'NotBuilt', 'Refused', 'Sum', 'Totals', 'add', 'bits', 'figure', 'line', 'load', 'merge', 'read', 'report', 'save', 'sum', 'totals', 'write']
 
 ROOT = pathlib.Path(__file__).resolve().parents[2]
 LONGEST_FILE = 65536
 LONGEST_REPORT = 4096
 
-# 16, an output that is too short, is not among them: this module lends outputs itself, and they are long enough
+# 16 can only come from load: this module lends outputs itself, and they are long enough
 GROUNDS = {
     1: 'the file is longer than 65,536 bytes',
     2: 'the file is shorter than 16 bytes',
@@ -56,12 +60,15 @@ GROUNDS = {
     13: 'the section has no row',
     14: 'the sum is too large for a double',
     15: 'the mill figure does not fit',
+    16: 'the output, or the table that a file is loaded into, is too short',
     17: 'a patch file would have more than 5,460 rows',
+    18: 'a saved table would have more than 1,023 groups',
+    19: 'the length, the distance or the zero field of a saved table is wrong',
 }
 
 
 class Refused(Exception):
-    """A refused call; number is 1 to 15 or 17, as docs/RULES.md lists it."""
+    """A refused call; number is 1 to 19, as docs/RULES.md lists it."""
 
     def __init__(self, number):
         super().__init__(f'refused {number}: {GROUNDS[number]}')
@@ -144,6 +151,8 @@ _TYPES = {
     'girth_figure': _TABLE + [ctypes.c_uint32, _SIGNED_OUT],
     'girth_line': _TABLE + [ctypes.c_uint32, _OUT, _OUT, _SIGNED_OUT, _SIGNED_OUT],
     'girth_totals': _TABLE + [_OUT, _OUT],
+    'girth_save': _TABLE + [_BYTES, _LENGTH],
+    'girth_load': 2 * [_BYTES, _LENGTH],
     'girth_report': 2 * [_BYTES, _LENGTH],
 }
 _loaded = None
@@ -320,6 +329,28 @@ def totals(table, g):
     if outs[0].value != g:
         raise RuntimeError('the library gave another number of sections than the table has records')
     return Totals(outs[0].value, outs[1].value)
+
+
+def save(table, g):
+    """A saved table of g records, as bytes: the records and a trailer. Or refusals 7 and 18."""
+    lent, out = _Lent('a table', table), _Lent('a file', bytearray(LONGEST_FILE), writable=True)
+    g = _whole('a group count', g, 64)
+    file = _front(_answer(_library().girth_save(*lent.words, g, *out.words)), out)
+    if len(file) != 64 * g + 16:
+        raise RuntimeError('the library gave a file that is not the records and a trailer')
+    return file
+
+
+def load(file, table):
+    """Reads a saved table into a table: its group count. Or refusals 1, 2, 3, 19, 16 and 7, the first that holds in this order.
+
+    What the table held before is given up, save its bytes after the records that are loaded, which stay as they were."""
+    lent, into = _Lent('a file', file), _Lent('a table', table, writable=True)
+    _apart(into, lent)
+    g = _groups(_library().girth_load(*lent.words, *into.words), into)
+    if 64 * g + 16 != lent.length:
+        raise RuntimeError('the library gave another group count than the file has')
+    return g
 
 
 def report(file):

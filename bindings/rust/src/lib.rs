@@ -34,6 +34,15 @@
 //! assert_eq!(girths::merge(&mut first, f, &other, h)?, g);
 //! assert_eq!(first, table);
 //!
+//! // the table kept in a file: 64 bytes a group, and a trailer of 16; loaded elsewhere, it goes on
+//! let mut file = [0u8; 64 * 64 + 16];
+//! let length = girths::save(&table, g, &mut file)?;
+//! assert_eq!(length, 144);
+//! let mut loaded = [0u8; 64 * 64];
+//! assert_eq!(girths::load(&file[..length], &mut loaded)?, g);
+//! assert_eq!(loaded, table);
+//! assert_eq!(girths::load(&file[1..length], &mut loaded).unwrap_err().number(), 19);
+//!
 //! // 1 + 2^-54 is no double: the nearest is 1, which is below it
 //! let values = [1f64, 2f64.powi(-54)].map(f64::to_le_bytes).concat();
 //! let g = girths::add(&mut table, 0, &[0; 8], &values, &mut work)?;
@@ -61,14 +70,16 @@ extern "C" {
         table: *const u8, table_len: usize, g: u64, key: u32, count: *mut u64, bits: *mut u64, figure: *mut i64, side: *mut i64,
     ) -> i64;
     fn girth_totals(table: *const u8, table_len: usize, g: u64, sections: *mut u64, rows: *mut u64) -> i64;
+    fn girth_save(table: *const u8, table_len: usize, g: u64, out: *mut u8, out_len: usize) -> i64;
+    fn girth_load(file: *const u8, file_len: usize, table: *mut u8, table_len: usize) -> i64;
     fn girth_report(file: *const u8, file_len: usize, out: *mut u8, out_len: usize) -> i64;
 }
 
-/// Why a call was refused, by its number of 1 to 17.
+/// Why a call was refused, by its number of 1 to 19.
 #[derive(Debug, PartialEq, Eq, Clone, Copy, Hash)]
 pub struct Refusal(u32);
 
-const GROUNDS: [&str; 17] = [
+const GROUNDS: [&str; 19] = [
     "the file is longer than 65,536 bytes",
     "the file is shorter than 16 bytes",
     "the last four bytes are not the mark",
@@ -84,8 +95,10 @@ const GROUNDS: [&str; 17] = [
     "the section has no row",
     "the sum is too large for a double",
     "the mill figure does not fit",
-    "the output is too short",
+    "the output, or the table that a file is loaded into, is too short",
     "a patch file would have more than 5,460 rows",
+    "a saved table would have more than 1,023 groups",
+    "the length, the distance or the zero field of a saved table is wrong",
 ];
 
 impl Refusal {
@@ -242,6 +255,26 @@ pub fn totals(table: &[u8], g: u64) -> Result<Totals, Refusal> {
     Ok(t)
 }
 
+/// Writes a saved table, its g records and a trailer of 16 bytes, to the front of an output, and gives the file's length. Refused, in this order: 7
+/// where the table is not sound, 18 where it has more than 1,023 groups, 16 where the output is shorter than the file. Bytes after the file are
+/// untouched, and so is the whole output when the call is refused.
+pub fn save(table: &[u8], g: u64, out: &mut [u8]) -> Result<usize, Refusal> {
+    let r = unsafe { girth_save(table.as_ptr(), table.len(), g, out.as_mut_ptr(), out.len()) };
+    let n = length(r, out.len())?;
+    assert_eq!(n as u64, 64 * g + 16, "a saved table is its records and a trailer");
+    Ok(n)
+}
+
+/// Reads a saved table into the front of a table, and gives its group count. What the table held before is given up; bytes after the records are
+/// untouched, and so is the whole table when the call is refused. Refused, in this order: 1, 2 and 3 as in [`read`], with the mark of a saved table,
+/// 19 where the length, the distance or the zero field is wrong, 16 where the table is too short, 7 where the records are not sound.
+pub fn load(file: &[u8], table: &mut [u8]) -> Result<u64, Refusal> {
+    let r = unsafe { girth_load(file.as_ptr(), file.len(), table.as_mut_ptr(), table.len()) };
+    let g = groups(r, table.len())?;
+    assert_eq!(64 * g + 16, file.len() as u64, "a saved table is its records and a trailer");
+    Ok(g)
+}
+
 /// Writes the report of a patch file to the front of an output, and gives its length, 4,096 bytes at most. Refusal 16 leaves the output untouched.
 pub fn report(file: &[u8], out: &mut [u8]) -> Result<usize, Refusal> {
     length(unsafe { girth_report(file.as_ptr(), file.len(), out.as_mut_ptr(), out.len()) }, out.len())
@@ -268,9 +301,14 @@ mod tests {
         let e = super::read(&[]).unwrap_err();
         assert_eq!(e.number(), 2);
         assert_eq!(e.to_string(), "refused 2: the file is shorter than 16 bytes");
-        assert_eq!(super::report(&[], &mut [0; 3]).unwrap_err().to_string(), "refused 16: the output is too short");
+        assert_eq!(super::report(&[], &mut [0; 3]).unwrap_err().to_string(), "refused 16: the output, or the table that a file is loaded into, is too short");
         let e = super::write(&[0; 4 * 5461], &[0; 8 * 5461], &mut []).unwrap_err();
         assert_eq!(e.to_string(), "refused 17: a patch file would have more than 5,460 rows");
+        let full: Vec<u8> = (0..1024u32).flat_map(|key| [&key.to_le_bytes()[..], &[1], &[0; 59]].concat()).collect();
+        let e = super::save(&full, 1024, &mut []).unwrap_err();
+        assert_eq!(e.to_string(), "refused 18: a saved table would have more than 1,023 groups");
+        let e = super::load(b"\0\0\0\0\x11\0\0\0\0\0\0\0TABL", &mut []).unwrap_err();
+        assert_eq!(e.to_string(), "refused 19: the length, the distance or the zero field of a saved table is wrong");
     }
 
     #[test]

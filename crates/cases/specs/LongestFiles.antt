@@ -6,7 +6,8 @@ use Rattle.refusal.specs.Outcome.{accepted, refused}
 use Rattle.columns.specs.declared.Kind.the-variants.{Double}
 use Rattle.patch.specs.File.{marked, outside, overlap, readGrounds, readOutcome}
 use Rattle.columns.specs.Columns.{columnsFit}
-use Rattle.patch.specs.Serializer.{trailerOf, writeGrounds, writeOutcome}
+use Rattle.trailer.specs.Trailer.{trailerOf}
+use Rattle.patch.specs.Serializer.{writeGrounds, writeOutcome}
 use Rattle.patch.specs.Cases.{zeros, file, Example, _gives_, WriteExample, writeCase, writeSays}
 
 -- full of rows, with a row more, with a byte more, and a byte too long without a mark

@@ -4,4 +4,5 @@ pub mod Possible
 pub mod Lists
 pub mod Totality
 pub mod Placing
+pub mod Checkpoints
 pub mod Reported

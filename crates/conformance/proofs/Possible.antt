@@ -13,9 +13,10 @@ use Rattle.finish.specs.declared.FinishedLine.{FinishedLine}
 use Rattle.totals.specs.declared.TableTotals.{TableTotals}
 use Rattle.totals.specs.Totals.{totalsOutcome}
 use Rattle.exports.specs.Calls.{returnsCount, returnsZero, writes, doubleBits}
-use Rattle.history.specs.Calls.{sum, figure, line, totals, Call, add, merge, ask}
-use Rattle.history.specs.Run.{State, Answer}
-use Rattle.conformance.specs.Called.{Called, by-girth-add, by-girth-merge, by-girth-sum, by-girth-figure, by-girth-line, by-girth-totals}
+use Rattle.checkpoint.specs.Calls.{saveOutcome, saveLeaves, loadOutcome, loadLeaves}
+use Rattle.history.specs.Calls.{sum, figure, line, totals, Call, add, merge, ask, save, load}
+use Rattle.history.specs.Run.{State, Answer, fileOn}
+use Rattle.conformance.specs.Called.{Called, by-girth-add, by-girth-merge, by-girth-sum, by-girth-figure, by-girth-line, by-girth-totals, by-girth-save, by-girth-load}
 use Rattle.conformance.specs.Worked.{Worked, done, next}
 
 -- a reference to x, wherever it stands
@@ -58,6 +59,16 @@ one-possible s (add i Double ks vs p n) =
       by-girth-add i ([], ([], ([], ([], tt)))) (ref b, (g, (ref ks, (ref vs, (ref w, tt))))) (returnsCount (addOutcome Double b g ks vs (length w)))
           (ref (addLeaves Double b g ks vs (length w)), (g, (ref ks, (ref vs, (ref (cleared w), tt))))) p (refl, refl) (refl, (refl, refl)),
     )
+one-possible s (save i n) =
+    let b = s .tables i .buffer in let g = s .tables i .groups in let out : List ℕ = replicate {A = ℕ} n 0 in
+    subst (λ (m : ℕ). (x : Answer) × (s′ : State) × Called s (save i m) x s′) (length-replicate n 0) (
+      _,
+      _,
+      by-girth-save i ([], ([], tt)) (ref b, (g, (ref out, tt))) (returnsCount (saveOutcome b g (length out))) (ref b, (g, (ref (saveLeaves b g out), tt))) (refl, refl) (refl, refl),
+    )
+one-possible s (load i n) =
+    let b = s .tables i .buffer in let f = fileOn (s .shelf) n in
+    (_, _, by-girth-load i n ([], ([], tt)) (ref f, (ref b, tt)) (returnsCount (loadOutcome f (length b))) (ref f, (ref (loadLeaves f b), tt)) refl refl (refl, refl))
 
 pub all-possible : (s : State) (cs : List Call) → (xs : List Answer) × (s′ : State) × Worked s cs xs s′
 all-possible s [] = ([], s, done)

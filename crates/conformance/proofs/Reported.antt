@@ -3,14 +3,14 @@ use Prim.Native.Nat.{ℕ}
 use mathlib.Core.Path.{_≡_, refl, sym, ap, ap₂, _∙_}
 use mathlib.Core.List.{List, [], _∷_, _++_, append-nil}
 use lib.IntN.{ℤ}
-use lib.ListN.{length, take, drop}
-use lib.Seq.{take-at}
+use lib.ListN.{length, take}
 use denote.Ref.{now}
 use Rattle.lists.specs.Lists.{anyOf}
 use Rattle.codec.specs.Cells.{cells, image}
 use Rattle.refusal.specs.Outcome.{Outcome, accepted}
 use Rattle.refusal.proofs.Outcomes.{not-given, accepted-value}
-use Rattle.output.specs.Output.{outputGround, outputLeaves}
+use Rattle.output.specs.Output.{outputGround}
+use Rattle.output.proofs.Outputs.{left-front}
 use Rattle.columns.specs.declared.Kind.the-variants.{Double}
 use Rattle.columns.specs.Columns.{rowsFrom, columnsFit, rowsOf}
 use Rattle.patch.specs.File.{readOutcome, keyColumn, valueColumn}
@@ -38,7 +38,7 @@ use Rattle.conformance.proofs.Steps.{counted}
 printed : (out w : List ℕ) {l : ℕ} → printOutcome out w ≡ accepted l → (length w ≡ l) × (take l (printLeaves out w) ≡ w)
 printed out w {l} e =
     let n = accepted-value (outputGround (length out) (length w) ∷ []) (length w) e in
-    (n, ap (λ (o : Outcome ℕ). take l (outputLeaves o w out)) e ∙ take-at w (drop (length w) out) l n)
+    (n, left-front w out e n)
 
 print-said : (out w : List ℕ) {z : ℤ} → z ≡ returnsCount (printOutcome out w) → countSaid z ≡ printOutcome out w
 print-said out w q = counted (printOutcome out w) (not-given 0 (outputGround (length out) (length w) ∷ []) (length w) refl) q

@@ -24,10 +24,13 @@ use Rattle.finish.specs.Finish.{RoundedSum, sumFor, figureFor, lineFor, sumGrou
 use Rattle.finish.proofs.Outcomes.{section-given, finished-not, sum-given, line-given, double-back}
 use Rattle.totals.specs.declared.TableTotals.{TableTotals}
 use Rattle.totals.specs.Totals.{tableTotals, totalsGrounds, totalsOutcome}
+use Rattle.checkpoint.specs.Saved.{savedLength, savedTable, groupCount}
+use Rattle.checkpoint.specs.Calls.{saveGrounds, saveOutcome, saveLeaves, loadGrounds, loadOutcome}
+use Rattle.checkpoint.proofs.Saving.{file-saved}
 use Rattle.exports.specs.Calls.{returnsCount, returnsZero, writes, doubleBits}
-use Rattle.history.specs.Calls.{Call}
-use Rattle.history.specs.Run.{State, Answer, setTable, after, step, groupsAre, sumIs, figureIs, lineIs, totalsAre, askTable, answer}
-use Rattle.conformance.specs.Called.{countSaid, valuesSaid, Called, by-add, by-girth-add, by-merge, by-girth-merge, by-sum, by-figure, by-line, by-girth-sum, by-girth-figure, by-girth-line, by-totals, by-girth-totals}
+use Rattle.history.specs.Calls.{Call, shelved}
+use Rattle.history.specs.Run.{State, Answer, setTable, after, step, groupsAre, sumIs, figureIs, lineIs, totalsAre, lengthIs, askTable, answer}
+use Rattle.conformance.specs.Called.{fileLeft, countSaid, valuesSaid, Called, by-add, by-girth-add, by-merge, by-girth-merge, by-sum, by-figure, by-line, by-girth-sum, by-girth-figure, by-girth-line, by-totals, by-girth-totals, by-save, by-girth-save, by-load, by-girth-load}
 
 -- ---- outcomes read back
 
@@ -63,6 +66,14 @@ read-not-0 f = not-given 0 (readGrounds Double f) (rowCount f) refl
 merge-not-0 : (s : List ℕ) (g : ℕ) (s′ : List ℕ) (g′ : ℕ) → isRefusal 0 (mergeOutcome s g s′ g′) ≡ false
 unfolding mergeGrounds
 merge-not-0 s g s′ g′ = not-given 0 (mergeGrounds s g s′ g′) (length (mergeSections s g s′ g′)) refl
+
+pub save-not-0 : (s : List ℕ) (g outLen : ℕ) → isRefusal 0 (saveOutcome s g outLen) ≡ false
+unfolding saveOutcome saveGrounds
+save-not-0 s g outLen = not-given 0 (saveGrounds s g outLen) (savedLength g) refl
+
+pub load-not-0 : (f : List ℕ) (tableLen : ℕ) → isRefusal 0 (loadOutcome f tableLen) ≡ false
+unfolding loadOutcome loadGrounds
+load-not-0 f tableLen = not-given 0 (loadGrounds f tableLen) (groupCount f) refl
 
 finishing-not-0 : {A : Type 0} (gs : Section → List Ground) (v : Section → A) → ((t : Section) → isGround 0 (gs t) ≡ false) → (s : List ℕ) (g k : ℕ) → isRefusal 0 (finishing (finishedBy gs v) s g k) ≡ false
 unfolding isRefusal
@@ -128,6 +139,15 @@ totals-read s g q wm wn =
     let n = wn ∙ ap (writes 0 (λ (t : TableTotals). t .count)) e in
     λ i. record { groups = m i; count = n i }) q
 
+-- the shelf after a save that answered o and left the output b: the file stands at the output's front
+saved-on : (s : List ℕ) (g : ℕ) (out : List ℕ) (files : List (List ℕ)) {o : Outcome ℕ} {b : List ℕ} → o ≡ saveOutcome s g (length out) → b ≡ saveLeaves s g out
+    → shelved (saveOutcome s g (length out)) (savedTable s g) files ≡ shelved o (fileLeft o b) files
+saved-on s g out files p q = rw (p, q) (by (saveOutcome s g (length out)) refl)
+  where
+    by : (o : Outcome ℕ) → saveOutcome s g (length out) ≡ o → shelved o (savedTable s g) files ≡ shelved o (fileLeft o (saveLeaves s g out)) files
+    by (accepted n) e = ap (λ (f : List ℕ). shelved (accepted n) f files) (sym (file-saved s g out e))
+    by (refused n) e = refl
+
 pub steps : (s : State) (c : Call) (x : Answer) (s′ : State) → Called s c x s′ → (answer s c ≡ x) × (step s c ≡ s′)
 unfolding answer step askTable
 steps s c x s′ (by-add i κs a z e b p l) = (
@@ -156,3 +176,21 @@ steps s c x s′ (by-girth-figure i κs a z e p l) = (rw (p .0, p .1) (ap figure
 steps s c x s′ (by-girth-line i κs a z e p l) = (rw (p .0, p .1) (ap lineIs (sym (line-read _ _ _ (l .0) (l .1 .0) (l .1 .1 .0) (l .1 .1 .1 .0) (l .1 .1 .1 .1)))), refl)
 steps s c x s′ (by-totals i κs a z e p l) = (rw (p .0, p .1) (ap totalsAre (sym l)), refl)
 steps s c x s′ (by-girth-totals i κs a z e p l) = (rw (p .0, p .1) (ap totalsAre (sym (totals-read _ _ (l .0) (l .1 .0) (l .1 .1)))), refl)
+steps s c x s′ (by-save i κs a z e p l) = (
+  rw (p .0, p .1) (ap lengthIs (sym (l .0))),
+  rw (p .0, p .1) (ap (λ (files : List (List ℕ)). record { tables = s .tables; shelf = files }) (saved-on (now (a .0)) (a .1 .0) (now (a .1 .1 .0)) (s .shelf) (l .0) (l .1))),
+)
+steps s c x s′ (by-girth-save i κs a z e p l) =
+    let q = counted (saveOutcome (now (a .0)) (a .1 .0) (length (now (a .1 .1 .0)))) (save-not-0 _ _ _) (l .0) in (
+      rw (p .0, p .1) (ap lengthIs (sym q)),
+      rw (p .0, p .1) (ap (λ (files : List (List ℕ)). record { tables = s .tables; shelf = files }) (saved-on (now (a .0)) (a .1 .0) (now (a .1 .1 .0)) (s .shelf) q (l .1))),
+    )
+steps s c x s′ (by-load i n κs a z e f p l) = (
+  rw (f, p) (ap groupsAre (sym (l .0))),
+  rw (f, p) (ap₂ (λ (o : Outcome ℕ) (b : List ℕ). setTable i (after o b (s .tables i .groups)) s) (sym (l .0)) (sym (l .1))),
+)
+steps s c x s′ (by-girth-load i n κs a z e f p l) =
+    let q = counted (loadOutcome (now (a .0)) (length (now (a .1 .0)))) (load-not-0 _ _) (l .0) in (
+      rw (f, p) (ap groupsAre (sym q)),
+      rw (f, p) (ap₂ (λ (o : Outcome ℕ) (b : List ℕ). setTable i (after o b (s .tables i .groups)) s) (sym q) (sym (l .1))),
+    )

@@ -15,6 +15,8 @@ asks-nothing = record {
   of-figure = λ κs a. tt;
   of-line = λ κs a. tt;
   of-totals = λ κs a. tt;
+  of-save = λ κs a. tt;
+  of-load = λ κs a. tt;
   of-report = λ κs a. tt;
   of-girth-read = λ κs a. tt;
   of-girth-add = λ κs a. tt;
@@ -24,5 +26,7 @@ asks-nothing = record {
   of-girth-line = λ κs a. tt;
   of-girth-totals = λ κs a. tt;
   of-girth-write = λ κs a. tt;
+  of-girth-save = λ κs a. tt;
+  of-girth-load = λ κs a. tt;
   of-girth-report = λ κs a. tt;
 }

@@ -25,6 +25,10 @@ use Rattle.finish.proofs.line.Reads as lineReads
 use Rattle.finish.proofs.line.Kinds as lineKinds
 use Rattle.totals.proofs.totals.Reads as totalsReads
 use Rattle.totals.proofs.totals.Kinds as totalsKinds
+use Rattle.checkpoint.proofs.save.Reads as saveReads
+use Rattle.checkpoint.proofs.save.Kinds as saveKinds
+use Rattle.checkpoint.proofs.load.Reads as loadReads
+use Rattle.checkpoint.proofs.load.Kinds as loadKinds
 use Rattle.report.proofs.report.Reads as reportReads
 use Rattle.report.proofs.report.Kinds as reportKinds
 use Rattle.exports.proofs.girth_read.Reads as girthReadReads
@@ -43,6 +47,10 @@ use Rattle.exports.proofs.girth_totals.Reads as girthTotalsReads
 use Rattle.exports.proofs.girth_totals.Kinds as girthTotalsKinds
 use Rattle.exports.proofs.girth_write.Reads as girthWriteReads
 use Rattle.exports.proofs.girth_write.Kinds as girthWriteKinds
+use Rattle.exports.proofs.girth_save.Reads as girthSaveReads
+use Rattle.exports.proofs.girth_save.Kinds as girthSaveKinds
+use Rattle.exports.proofs.girth_load.Reads as girthLoadReads
+use Rattle.exports.proofs.girth_load.Kinds as girthLoadKinds
 use Rattle.exports.proofs.girth_report.Reads as girthReportReads
 use Rattle.exports.proofs.girth_report.Kinds as girthReportKinds
 
@@ -60,6 +68,8 @@ pub record AsksNothing : Type 1 where
   pub of-figure : (κs : Lfts 1) (a : Dens κs figureKinds.ps) → figureReads.Asked κs a
   pub of-line : (κs : Lfts 1) (a : Dens κs lineKinds.ps) → lineReads.Asked κs a
   pub of-totals : (κs : Lfts 1) (a : Dens κs totalsKinds.ps) → totalsReads.Asked κs a
+  pub of-save : (κs : Lfts 2) (a : Dens κs saveKinds.ps) → saveReads.Asked κs a
+  pub of-load : (κs : Lfts 2) (a : Dens κs loadKinds.ps) → loadReads.Asked κs a
   pub of-report : (κs : Lfts 2) (a : Dens κs reportKinds.ps) → reportReads.Asked κs a
   pub of-girth-read : (κs : Lfts 3) (a : Dens κs girthReadKinds.ps) → girthReadReads.Asked κs a
   pub of-girth-add : (κs : Lfts 4) (a : Dens κs girthAddKinds.ps) → girthAddReads.Asked κs a
@@ -69,4 +79,6 @@ pub record AsksNothing : Type 1 where
   pub of-girth-line : (κs : Lfts 5) (a : Dens κs girthLineKinds.ps) → girthLineReads.Asked κs a
   pub of-girth-totals : (κs : Lfts 3) (a : Dens κs girthTotalsKinds.ps) → girthTotalsReads.Asked κs a
   pub of-girth-write : (κs : Lfts 3) (a : Dens κs girthWriteKinds.ps) → girthWriteReads.Asked κs a
+  pub of-girth-save : (κs : Lfts 2) (a : Dens κs girthSaveKinds.ps) → girthSaveReads.Asked κs a
+  pub of-girth-load : (κs : Lfts 2) (a : Dens κs girthLoadKinds.ps) → girthLoadReads.Asked κs a
   pub of-girth-report : (κs : Lfts 2) (a : Dens κs girthReportKinds.ps) → girthReportReads.Asked κs a

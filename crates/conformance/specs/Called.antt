@@ -3,11 +3,11 @@
 use Prim.Native.Nat.{ℕ, suc}
 use mathlib.Core.Path.{_≡_}
 use mathlib.Core.Bool.{not}
-use mathlib.Core.List.{List}
+use mathlib.Core.List.{List, []}
 use lib.Dec.{T, eqb}
 use lib.IntN.{ℤ, pos, negsuc}
 use lib.Ieee.{binary64, ofBits}
-use lib.ListN.{length}
+use lib.ListN.{length, take}
 use lib.Pow.{areBytes}
 use contract.Lifetimes.{Lfts}
 use borrow.Fn.Kinds.{Dens, endedOf, resT}
@@ -15,12 +15,13 @@ use denote.Triple.Clauses.{AtExit}
 use denote.Ref.{now}
 use Rattle.refusal.specs.Outcome.{Outcome, accepted, refused}
 use Rattle.limbs.specs.Side.{sideSaid}
+use Rattle.output.specs.Output.{outputAnswer}
 use Rattle.columns.specs.declared.Kind.the-variants.{Double}
 use Rattle.table.specs.Answer.{tableAnswer}
 use Rattle.finish.specs.Answer.{sumAnswer, figureAnswer, lineAnswer}
 use Rattle.totals.specs.Answer.{totalsAnswer}
-use Rattle.history.specs.Calls.{sum, figure, line, totals, Call, add, merge, ask}
-use Rattle.history.specs.Run.{Store, State, setTable, after, Answer, groupsAre, sumIs, figureIs, lineIs, totalsAre}
+use Rattle.history.specs.Calls.{sum, figure, line, totals, Call, add, merge, ask, save, load, shelved}
+use Rattle.history.specs.Run.{Store, State, setTable, after, fileOn, Answer, groupsAre, sumIs, figureIs, lineIs, totalsAre, lengthIs}
 use Rattle.add.proofs.add.Reads as addReads
 use Rattle.add.proofs.add.Kinds as addKinds
 use Rattle.merge.proofs.merge.Reads as mergeReads
@@ -33,6 +34,10 @@ use Rattle.finish.proofs.line.Reads as lineReads
 use Rattle.finish.proofs.line.Kinds as lineKinds
 use Rattle.totals.proofs.totals.Reads as totalsReads
 use Rattle.totals.proofs.totals.Kinds as totalsKinds
+use Rattle.checkpoint.proofs.save.Reads as saveReads
+use Rattle.checkpoint.proofs.save.Kinds as saveKinds
+use Rattle.checkpoint.proofs.load.Reads as loadReads
+use Rattle.checkpoint.proofs.load.Kinds as loadKinds
 use Rattle.exports.proofs.girth_add.Reads as girthAddReads
 use Rattle.exports.proofs.girth_add.Kinds as girthAddKinds
 use Rattle.exports.proofs.girth_merge.Reads as girthMergeReads
@@ -45,6 +50,10 @@ use Rattle.exports.proofs.girth_line.Reads as girthLineReads
 use Rattle.exports.proofs.girth_line.Kinds as girthLineKinds
 use Rattle.exports.proofs.girth_totals.Reads as girthTotalsReads
 use Rattle.exports.proofs.girth_totals.Kinds as girthTotalsKinds
+use Rattle.exports.proofs.girth_save.Reads as girthSaveReads
+use Rattle.exports.proofs.girth_save.Kinds as girthSaveKinds
+use Rattle.exports.proofs.girth_load.Reads as girthLoadReads
+use Rattle.exports.proofs.girth_load.Kinds as girthLoadKinds
 
 -- table t is lent: its bytes b, and its group count g
 abbrev pub Lent : Store → List ℕ → ℕ → Type 0
@@ -53,6 +62,15 @@ Lent t b g = (t .buffer ≡ b) × (t .groups ≡ g)
 -- the state after a call that answers o and leaves the bytes b in table i
 abbrev pub stateLeft : State → ℕ → Outcome ℕ → List ℕ → State
 stateLeft s i o b = setTable i (after o b (s .tables i .groups)) s
+
+-- the file that a save leaves at the front of the output b: as many bytes as it answers
+abbrev pub fileLeft : Outcome ℕ → List ℕ → List ℕ
+fileLeft (accepted n) b = take n b
+fileLeft (refused r) b = []
+
+-- the state after a save that answers o and leaves the output b
+abbrev pub shelfLeft : State → Outcome ℕ → List ℕ → State
+shelfLeft s o b = record { tables = s .tables; shelf = shelved o (fileLeft o b) (s .shelf) }
 
 -- what the number that an exported call returns says: a count, or minus the refusal's number
 abbrev pub countSaid : ℤ → Outcome ℕ
@@ -102,3 +120,17 @@ pub data Called (s : State) : Call → Answer → State → Type 1 where
   by-girth-totals : (i : ℕ) (κs : Lfts 3) (a : Dens κs girthTotalsKinds.ps) (z : resT girthTotalsKinds.r κs .Denot) (e : AtExit (endedOf 3 girthTotalsKinds.ps girthTotalsKinds.r) κs)
       → Lent (s .tables i) (now (a .0)) (a .1 .0) → girthTotalsReads.Learnt κs a z e
       → Called s (ask i totals) (totalsAre (valuesSaid (record { groups = now (e .1 .1 .0); count = now (e .1 .1 .1 .0) }) z)) s
+  -- table, group count and output
+  by-save : (i : ℕ) (κs : Lfts 2) (a : Dens κs saveKinds.ps) (z : resT saveKinds.r κs .Denot) (e : AtExit (endedOf 2 saveKinds.ps saveKinds.r) κs)
+      → Lent (s .tables i) (now (a .0)) (a .1 .0) → saveReads.Learnt κs a z e
+      → Called s (save i (length (now (a .1 .1 .0)))) (lengthIs (outputAnswer z)) (shelfLeft s (outputAnswer z) (now (e .1 .1 .0)))
+  by-girth-save : (i : ℕ) (κs : Lfts 2) (a : Dens κs girthSaveKinds.ps) (z : resT girthSaveKinds.r κs .Denot) (e : AtExit (endedOf 2 girthSaveKinds.ps girthSaveKinds.r) κs)
+      → Lent (s .tables i) (now (a .0)) (a .1 .0) → girthSaveReads.Learnt κs a z e
+      → Called s (save i (length (now (a .1 .1 .0)))) (lengthIs (countSaid z)) (shelfLeft s (countSaid z) (now (e .1 .1 .0)))
+  -- the file with the number n, and the bytes of a table
+  by-load : (i n : ℕ) (κs : Lfts 2) (a : Dens κs loadKinds.ps) (z : resT loadKinds.r κs .Denot) (e : AtExit (endedOf 2 loadKinds.ps loadKinds.r) κs)
+      → fileOn (s .shelf) n ≡ now (a .0) → s .tables i .buffer ≡ now (a .1 .0) → loadReads.Learnt κs a z e
+      → Called s (load i n) (groupsAre (tableAnswer z)) (stateLeft s i (tableAnswer z) (now (e .1 .0)))
+  by-girth-load : (i n : ℕ) (κs : Lfts 2) (a : Dens κs girthLoadKinds.ps) (z : resT girthLoadKinds.r κs .Denot) (e : AtExit (endedOf 2 girthLoadKinds.ps girthLoadKinds.r) κs)
+      → fileOn (s .shelf) n ≡ now (a .0) → s .tables i .buffer ≡ now (a .1 .0) → girthLoadReads.Learnt κs a z e
+      → Called s (load i n) (groupsAre (countSaid z)) (stateLeft s i (countSaid z) (now (e .1 .0)))

@@ -3,6 +3,7 @@ pub mod Called
 pub mod Worked
 pub mod Exported
 pub mod Files
+pub mod Checkpoints
 pub mod Reported
 pub mod Parts
 pub mod AsksNothing

@@ -20,6 +20,7 @@ ghost use Rattle.table.specs.Answer.{tableAnswer};
 ghost use Rattle.limbs.specs.Side.{sideNumber};
 ghost use Rattle.finish.specs.Finish.{sumOutcome, figureOutcome, lineOutcome};
 ghost use Rattle.totals.specs.Totals.{totalsOutcome};
+ghost use Rattle.checkpoint.specs.Calls.{saveOutcome, saveLeaves, loadOutcome, loadLeaves};
 ghost use Rattle.report.specs.Text.{reportText};
 ghost use Rattle.report.specs.Answer.{printOutcome, printLeaves};
 ghost use Rattle.exports.specs.Calls.{returnsCount, returnsZero, writes, doubleBits};
@@ -57,7 +58,7 @@ pub extern "C" fn girth_read(file: &[u8], keys_at: &mut u64, values_at: &mut u64
     }
 }
 
-// The new group count of an add or a merge, or minus the refusal's number.
+// The group count that an add, a merge or a load answers, or minus the refusal's number.
 fn groups_or_minus(a: TableAnswer) -> i64
     requires { ⌜ ((g : ℕ) → tableAnswer a ≡ accepted g → g ≤ mostGroups) ⌝ }
     ensures { λ r. ⌜ r ≡ returnsCount (tableAnswer a) ⌝ }
@@ -212,6 +213,24 @@ pub extern "C" fn girth_write(keys: &[u8], values: &[u8], out: &mut [u8]) -> i64
     ensures content { λ _. ⌜ now (out .exit) ≡ writeLeaves (now (keys .entry)) (now (values .entry)) (now (out .entry)) ⌝ }
 {
     length_or_minus(patch::write(keys, values, out))
+}
+
+// The file of a table of g records, at the front of out: its length, or minus the refusal's number.
+#[no_mangle]
+pub extern "C" fn girth_save(table: &[u8], g: u64, out: &mut [u8]) -> i64
+    ensures answer { λ r. ⌜ r ≡ returnsCount (saveOutcome (now (table .entry)) g (length (now (out .entry)))) ⌝ }
+    ensures content { λ _. ⌜ now (out .exit) ≡ saveLeaves (now (table .entry)) g (now (out .entry)) ⌝ }
+{
+    length_or_minus(checkpoint::save(table, g as usize, out))
+}
+
+// The records of a saved table, at the front of a lent one: their group count, or minus the refusal's number.
+#[no_mangle]
+pub extern "C" fn girth_load(file: &[u8], table: &mut [u8]) -> i64
+    ensures answer { λ r. ⌜ r ≡ returnsCount (loadOutcome (now (file .entry)) (length (now (table .entry)))) ⌝ }
+    ensures content { λ _. ⌜ now (table .exit) ≡ loadLeaves (now (file .entry)) (now (table .entry)) ⌝ }
+{
+    groups_or_minus(checkpoint::load(file, table))
 }
 
 // The report of a patch file, at the front of out: the length of its text, or -16 where out is shorter.

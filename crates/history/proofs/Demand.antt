@@ -16,9 +16,9 @@ use Rattle.lists.specs.Lists.{anyOf}
 use Rattle.table.proofs.Bytes.{length-sectionBytes}
 use Rattle.history.specs.Rows.{SameRows, sectionBits}
 use Rattle.history.specs.Canonical.{sectionIf, canonical}
-use Rattle.history.specs.Calls.{Question, noRows}
-use Rattle.history.specs.Run.{Store, askTable, askRows, answers, answersRows, refuses}
-use Rattle.history.specs.Demand3.{History, empty, lengths, rows, table, used, sectionsIn, Demand3}
+use Rattle.history.specs.Calls.{Question, noRows, ledgerAfter}
+use Rattle.history.specs.Run.{Store, stateAfter, askTable, askRows, answers, answersRows, refuses}
+use Rattle.history.specs.Demand3.{History, empty, lengths, rows, beneath, table, used, sectionsIn, Demand3}
 use Rattle.history.proofs.Sections.{section-count}
 use Rattle.history.proofs.Canonical.{find-canonical}
 use Rattle.history.proofs.Order.{canonical-same}
@@ -26,7 +26,7 @@ use Rattle.history.proofs.Near.{near}
 use Rattle.history.proofs.Questions.{ask-is, ask-same}
 use Rattle.history.proofs.Tables.{HoldsRows, sound-is}
 use Rattle.history.proofs.Totals.{totals-canonical}
-use Rattle.history.proofs.Calls.{agrees-none, agrees-after, answers-are, answers-not-7}
+use Rattle.history.proofs.Calls.{Agrees, agrees-none, agrees-after, answers-are, answers-not-7}
 
 -- a section has a record where it has a row, and just there
 present-is : (k : ℕ) (bs : List ℕ) → 0 < length bs → sectionIf k bs ≡ some (sectionOf k bs)
@@ -41,21 +41,28 @@ absent-is k (b ∷ bs) e = absurd (omega arith)
 
 -- ---- a table after a list of calls
 module _ (h : History) where
+  -- at the start the state agrees with the ledger
+  start-agrees : Agrees (lengths h) (h .initial) (empty h) noRows
+  start-agrees = agrees-none (lengths h) (h .initial) (λ i. refl)
+
+  pub state-agrees : Agrees (lengths h) (beneath h) (stateAfter (empty h) (h .calls)) (ledgerAfter (lengths h) noRows (h .calls))
+  state-agrees = agrees-after (lengths h) (h .initial) (empty h) noRows start-agrees (h .calls)
+
   answered-is : answers (empty h) (h .calls) ≡ answersRows (lengths h) noRows (h .calls)
-  answered-is = answers-are (h .initial) (empty h) noRows (agrees-none (h .initial)) (h .calls)
+  answered-is = answers-are (lengths h) (h .initial) (empty h) noRows start-agrees (h .calls)
 
   module _ (i : ℕ) where
-    holds-is : HoldsRows (h .initial i) (table h i) (rows h i)
-    holds-is = agrees-after (h .initial) (empty h) noRows (agrees-none (h .initial)) (h .calls) .tables i
+    holds-is : HoldsRows (beneath h i) (table h i) (rows h i)
+    holds-is = state-agrees .tables i
 
     table-sound : sound (table h i .buffer) (table h i .groups) ≡ true
-    table-sound = sound-is (h .initial i) (table h i) (rows h i) holds-is
+    table-sound = sound-is (beneath h i) (table h i) (rows h i) holds-is
 
     used-are : used (table h i) ≡ sectionBytes (canonical (rows h i))
     used-are =
         let n = 64 * length (canonical (rows h i)) in
         ap₂ (λ (g : ℕ) (s : List ℕ). take (64 * g) s) (holds-is .groups) (holds-is .buffer)
-        ∙ take-at (sectionBytes (canonical (rows h i))) (drop n (h .initial i)) n (length-sectionBytes (canonical (rows h i)))
+        ∙ take-at (sectionBytes (canonical (rows h i))) (drop n (beneath h i)) n (length-sectionBytes (canonical (rows h i)))
 
     found-is : (k : ℕ) → find k (sectionsIn (table h i)) ≡ sectionIf k (sectionBits k (rows h i))
     found-is k = ap (find k) (holds-is .has-sections) ∙ find-canonical k (rows h i)

@@ -2,7 +2,7 @@
 use Prim.Native.Nat.{ℕ}
 use mathlib.Core.Path.{_≡_, refl}
 use mathlib.Core.Bool.{true, false}
-use mathlib.Core.List.{List, [], _∷_, map}
+use mathlib.Core.List.{List, [], _∷_, _++_, map}
 use lib.Dec.{T}
 use lib.ListN.{replicate}
 use lib.Pow.{areBytes}
@@ -12,7 +12,7 @@ use Rattle.refusal.specs.Outcome.{accepted, refused, isRefusal}
 use Rattle.level.specs.Level.{topFrom, top, given, contribution, topOf, total}
 use Rattle.columns.specs.declared.Kind.the-variants.{Double}
 use Rattle.columns.specs.Columns.{width, Row, rowsFrom, columnsFit, rowsOf}
-use Rattle.record.specs.Section.{Section, sections, written, find, kept, sectionAtTop}
+use Rattle.record.specs.Section.{Section, sections, sectionBytes, written, find, kept, sectionAtTop}
 use Rattle.limbs.specs.declared.Side.the-variants.{Equal}
 use Rattle.finish.specs.Sum.{tooLarge, nearestDouble}
 use Rattle.finish.specs.Side.{side}
@@ -25,11 +25,16 @@ use Rattle.record.specs.Sound.{soundTotal, isZero, soundRecord, soundRecords, s
 use Rattle.table.specs.Combine.{ofRow, levelOf, combine, absorb, merged, added}
 use Rattle.table.specs.Calls.{addGrounds, columnGrounds, mergeGrounds}
 use Rattle.totals.specs.Totals.{rowTotal}
+use Rattle.trailer.specs.Trailer.{trailerOf}
+use Rattle.checkpoint.specs.Saved.{savedTable, wrongLayout}
+use Rattle.checkpoint.specs.Calls.{saveGrounds, saveOutcome, loadGrounds, loadOutcome, loadLeaves}
 use Rattle.lists.specs.Lists.{anyOf}
 use Rattle.history.specs.Rows.{sectionBits, insertKey, sectionNumbers, rowsTotals}
 use Rattle.history.specs.Canonical.{canonical}
-use Rattle.history.specs.Calls.{sum, figure, line, totals, Call, add, merge, ask, tooManyRows, tooManyKeys, addRowsGrounds, mergeRowsGrounds, noRows, stepRows, ledgerAfter}
-use Rattle.history.specs.Run.{Store, State, noGroups, groupsAre, sumIs, figureIs, lineIs, totalsAre, step, stateAfter, askTable, answer, answers, refuses}
+use Rattle.history.specs.Calls.{sum, figure, line, totals, Call, add, merge, ask, save, load, tooManyRows, tooManyKeys, addRowsGrounds, mergeRowsGrounds, saveRowsGrounds, loadRowsGrounds, noRows, stepRows, ledgerAfter}
+use Rattle.history.specs.Run.{Store, State, noGroups, groupsAre, sumIs, figureIs, lineIs, totalsAre, lengthIs, step, stateAfter, askTable, answer, answers, refuses}
+use Rattle.history.specs.Demand3.{History}
+use Rattle.history.specs.Reloaded.{finalState, saving, reloading, SavedAndLoaded, named, uses, exchange, Renamed, RenamedCalls}
 
 -- a buffer of 128 bytes: room for two sections
 abbrev lentBuffer : List ℕ
@@ -53,10 +58,11 @@ exampleRows = record { key = 7; bits = 0x3FF0000000000000 } ∷ record { key = 3
 
 -- what a list of calls leaves in table 0
 leftInTable0 : List Call → Store
-unfolding stateAfter step answers answer askTable addGrounds columnGrounds mergeGrounds sound rising cells soundRecords soundRecord soundTotal isZero columnsFit image bytes anyOf rowsOf rowsFrom number numberAt added merged absorb combine levelOf ofRow top topFrom given contribution encode decode
+unfolding stateAfter step answers answer askTable addGrounds columnGrounds mergeGrounds saveOutcome saveGrounds savedTable trailerOf loadOutcome loadGrounds loadLeaves wrongLayout sound rising cells soundRecords soundRecord soundTotal isZero columnsFit image bytes anyOf rowsOf rowsFrom number numberAt added merged absorb combine levelOf ofRow top topFrom given contribution encode decode
 leftInTable0 cs = stateAfter emptyTables cs .tables 0
 
--- the same rows in one add, in another order, in two adds, merged from another table, merged the other way round, and with a refused add between
+-- the same rows in one add, in another order, in two adds, merged from another table, merged the other way round, with a refused add between, loaded from the
+-- file of another table, and with a half-done table saved and, after a row that is lost, loaded again
 ways : List (List Call)
 unfolding image bytes
 ways =
@@ -66,14 +72,16 @@ ways =
     ∷ (addTo 0 (7 ∷ []) (0x3FF0000000000000 ∷ []) tt ∷ addTo 1 (7 ∷ 3 ∷ []) (0x43B0000000000000 ∷ 1 ∷ []) tt ∷ merge 0 1 tt ∷ [])
     ∷ (addTo 1 (7 ∷ []) (0x3FF0000000000000 ∷ []) tt ∷ addTo 0 (7 ∷ 3 ∷ []) (0x43B0000000000000 ∷ 1 ∷ []) tt ∷ merge 0 1 tt ∷ [])
     ∷ (addTo 0 (7 ∷ []) (0x3FF0000000000000 ∷ []) tt ∷ refusedAdd ∷ addTo 0 (7 ∷ 3 ∷ []) (0x43B0000000000000 ∷ 1 ∷ []) tt ∷ [])
+    ∷ (addTo 1 (7 ∷ 3 ∷ 7 ∷ []) (0x3FF0000000000000 ∷ 1 ∷ 0x43B0000000000000 ∷ []) tt ∷ save 1 144 ∷ load 0 0 ∷ [])
+    ∷ (addTo 0 (7 ∷ []) (0x3FF0000000000000 ∷ []) tt ∷ save 0 80 ∷ addTo 0 (8 ∷ []) (1 ∷ []) tt ∷ load 0 0 ∷ addTo 0 (7 ∷ 3 ∷ []) (0x43B0000000000000 ∷ 1 ∷ []) tt ∷ [])
     ∷ []
 
-one-table : map leftInTable0 ways ≡ replicate 6 (record { buffer = written (canonical exampleRows) lentBuffer; groups = 2 })
+one-table : map leftInTable0 ways ≡ replicate 8 (record { buffer = written (canonical exampleRows) lentBuffer; groups = 2 })
 unfolding ways leftInTable0 canonical sectionNumbers insertKey sectionBits sectionAtTop topOf total
 one-table = refl
 
 -- two sections and three rows, whichever way
-totals-alike : map (λ (cs : List Call). askTable (leftInTable0 cs) totals) ways ≡ replicate 6 (totalsAre (accepted (rowsTotals exampleRows)))
+totals-alike : map (λ (cs : List Call). askTable (leftInTable0 cs) totals) ways ≡ replicate 8 (totalsAre (accepted (rowsTotals exampleRows)))
 unfolding ways leftInTable0 rowTotal sectionNumbers insertKey
 totals-alike = refl
 
@@ -112,22 +120,77 @@ totals-between : answers emptyTables totalsAsked
 unfolding totalsAsked leftInTable0 rowTotal
 totals-between = refl
 
--- one call of each kind
+-- two tables saved, the second after an output that is too short; the files are loaded by number, and the third is not on the shelf
+shelfCalls : List Call
+unfolding image bytes
+shelfCalls =
+    addTo 0 (7 ∷ 3 ∷ []) (1 ∷ 2 ∷ []) tt ∷ addTo 1 (5 ∷ []) (3 ∷ []) tt ∷ save 0 144 ∷ save 1 79 ∷ save 1 80 ∷ load 0 1 ∷ load 1 2 ∷ load 1 0 ∷ []
+
+answers-of-files : answers emptyTables shelfCalls
+    ≡ groupsAre (accepted 2) ∷ groupsAre (accepted 1) ∷ lengthIs (accepted 144) ∷ lengthIs (refused 16) ∷ lengthIs (accepted 80)
+    ∷ groupsAre (accepted 1) ∷ groupsAre (refused 2) ∷ groupsAre (accepted 2) ∷ []
+unfolding shelfCalls leftInTable0
+answers-of-files = refl
+
+-- table 0 has the row of table 1, and after its record the bytes of its own second one; table 1 has the rows that table 0 had
+rows-of-files : map (λ (i : ℕ). ledgerAfter (λ (j : ℕ). 128) noRows shelfCalls .rows i) (0 ∷ 1 ∷ [])
+    ≡ (record { key = 5; bits = 3 } ∷ []) ∷ (record { key = 7; bits = 1 } ∷ record { key = 3; bits = 2 } ∷ []) ∷ []
+unfolding shelfCalls leftInTable0 ledgerAfter stepRows mergeRowsGrounds tooManyRows sectionNumbers addRowsGrounds insertKey sectionBits tooManyKeys saveRowsGrounds loadRowsGrounds
+rows-of-files = refl
+
+bytes-of-files : leftInTable0 shelfCalls
+    ≡ record { buffer = sectionBytes (canonical (record { key = 5; bits = 3 } ∷ [])) ++ sectionBytes (canonical (record { key = 7; bits = 1 } ∷ [])); groups = 1 }
+unfolding shelfCalls leftInTable0 canonical sectionNumbers insertKey sectionBits sectionAtTop topOf total
+bytes-of-files = refl
+
+-- a row in section 7 of table 0 and one in section 5 of table 1; then table 0 is saved, and its file is loaded into table 1
+halfDone : History
+unfolding image bytes
+halfDone = record { initial = λ i. lentBuffer; calls = addTo 0 (7 ∷ []) (1 ∷ []) tt ∷ addTo 1 (5 ∷ []) (3 ∷ []) tt ∷ [] }
+
+half-done-loaded : SavedAndLoaded halfDone 0 80 [] 1
+unfolding halfDone leftInTable0
+half-done-loaded = record { answered-length = 80; answered-groups = 1; save-accepted = refl; load-accepted = refl }
+
+-- calls that go on with table 1, none of them with the original, and the same calls on the original
+onLoaded : List Call
+unfolding image bytes
+onLoaded = addTo 1 (8 ∷ []) (2 ∷ []) tt ∷ merge 2 1 tt ∷ merge 1 2 tt ∷ ask 1 totals ∷ save 1 200 ∷ load 2 0 ∷ []
+
+onOriginal : List Call
+unfolding image bytes
+onOriginal = addTo 0 (8 ∷ []) (2 ∷ []) tt ∷ merge 2 0 tt ∷ merge 0 2 tt ∷ ask 0 totals ∷ save 0 200 ∷ load 2 0 ∷ []
+
+original-unused : anyOf (uses 0) onLoaded ≡ false
+unfolding onLoaded named anyOf
+original-unused = refl
+
+numbers-exchanged : RenamedCalls (exchange 0 1) onLoaded onOriginal
+unfolding RenamedCalls Renamed exchange onLoaded onOriginal
+numbers-exchanged = (refl, ((tt, refl), ((tt, refl), (refl, (refl, (refl, tt))))))
+
+-- what both are answered: of the row in section 5 nothing is left
+answers-on : map (λ (a : History × List Call). answers (finalState (a .0)) (a .1)) ((reloading halfDone 0 80 [] 1, onLoaded) ∷ (saving halfDone 0 80 [], onOriginal) ∷ [])
+    ≡ replicate 2 (groupsAre (accepted 2) ∷ groupsAre (accepted 2) ∷ groupsAre (accepted 2) ∷ totalsAre (accepted (record { groups = 2; count = 4 })) ∷ lengthIs (accepted 144) ∷ groupsAre (accepted 1) ∷ [])
+unfolding halfDone onLoaded onOriginal leftInTable0 rowTotal
+answers-on = refl
+
+-- one call of each kind that gets a table with its group count
 eachCall : List Call
 unfolding image bytes
-eachCall = addTo 0 (7 ∷ []) (1 ∷ []) tt ∷ merge 0 1 tt ∷ ask 0 (sum 7) ∷ ask 0 (figure 7) ∷ ask 0 (line 7) ∷ ask 0 totals ∷ []
+eachCall = addTo 0 (7 ∷ []) (1 ∷ []) tt ∷ merge 0 1 tt ∷ ask 0 (sum 7) ∷ ask 0 (figure 7) ∷ ask 0 (line 7) ∷ ask 0 totals ∷ save 0 80 ∷ []
 
 -- every table claims a record and has none
 unsoundTables : State
-unsoundTables = record { tables = λ i. record { buffer = []; groups = 1 } }
+unsoundTables = record { tables = λ i. record { buffer = []; groups = 1 }; shelf = [] }
 
 -- each is refused with 7 there, and with no other number
-refused-with-7 : map (λ (c : Call). refuses 7 (answer unsoundTables c)) eachCall ≡ replicate 6 true
-unfolding eachCall unsoundTables answer askTable sound isRefusal addGrounds columnGrounds mergeGrounds
+refused-with-7 : map (λ (c : Call). refuses 7 (answer unsoundTables c)) eachCall ≡ replicate 7 true
+unfolding eachCall unsoundTables answer askTable sound isRefusal addGrounds columnGrounds mergeGrounds saveOutcome saveGrounds
 refused-with-7 = refl
 
-not-with-8 : map (λ (c : Call). refuses 8 (answer unsoundTables c)) eachCall ≡ replicate 6 false
-unfolding eachCall unsoundTables answer askTable sound isRefusal addGrounds columnGrounds mergeGrounds
+not-with-8 : map (λ (c : Call). refuses 8 (answer unsoundTables c)) eachCall ≡ replicate 7 false
+unfolding eachCall unsoundTables answer askTable sound isRefusal addGrounds columnGrounds mergeGrounds saveOutcome saveGrounds
 not-with-8 = refl
 
 -- refused with 9, accepted, and refused with 12 and with 10

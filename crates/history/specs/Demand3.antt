@@ -15,6 +15,7 @@ use Rattle.lists.specs.Lists.{anyOf}
 use Rattle.history.specs.Rows.{SameRows, sectionBits, rowsTotals, largest}
 use Rattle.history.specs.Canonical.{canonical}
 use Rattle.history.specs.Calls.{Question, Call, noRows, ledgerAfter}
+use Rattle.history.specs.Beneath.{beneathAfter}
 use Rattle.history.specs.Run.{Store, State, noGroups, stateAfter, askTable, askRows, answers, answersRows, refuses}
 
 -- a way of working: the bytes in each table's buffer at the start, and the calls
@@ -34,6 +35,10 @@ lengths h i = length (h .initial i)
 abbrev pub rows : History → ℕ → List Row
 rows h i = ledgerAfter (lengths h) noRows (h .calls) .rows i
 
+-- the bytes beneath table i's records after it: those in its buffer at the start, or when a file was last loaded into it
+abbrev pub beneath : History → ℕ → List ℕ
+beneath h i = beneathAfter (lengths h) noRows (h .initial) (h .calls) i
+
 -- table i after it
 abbrev pub table : History → ℕ → Store
 table h i = stateAfter (empty h) (h .calls) .tables i
@@ -48,9 +53,9 @@ sectionsIn t = sections (t .buffer) (t .groups)
 
 -- the one claim, about the whole of every list of calls
 pub record Demand3 : Type 0 where
-  -- a table holds the records that document 01 fixes for its rows, and after them what its buffer held at the start
+  -- a table holds the records that document 01 fixes for its rows, and after them what its buffer held beneath
   pub fixed : (h : History) (i : ℕ)
-      → table h i ≡ record { buffer = written (canonical (rows h i)) (h .initial i); groups = length (canonical (rows h i)) }
+      → table h i ≡ record { buffer = written (canonical (rows h i)) (beneath h i); groups = length (canonical (rows h i)) }
   -- every table is sound
   pub always-sound : (h : History) (i : ℕ) → sound (table h i .buffer) (table h i .groups) ≡ true
   -- every call is answered by the conditions on the rows, its inputs and the lent lengths; so 7 is never an answer

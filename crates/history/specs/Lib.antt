@@ -2,7 +2,9 @@
 pub mod Rows
 pub mod Canonical
 pub mod Calls
+pub mod Beneath
 pub mod Run
 pub mod Demand3
+pub mod Reloaded
 pub mod Terms
 pub mod Cases

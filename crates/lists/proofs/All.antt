@@ -9,6 +9,11 @@ All P [] = Unit {0}
 All P (x ∷ xs) = P x × All P xs
 
 module _ {A : Type 0} (P : A → Type 0) where
+  -- what holds of everything
+  pub all-hold : ((x : A) → P x) → (xs : List A) → All P xs
+  all-hold f [] = tt
+  all-hold f (x ∷ xs) = (f x, all-hold f xs)
+
   pub all-append : (xs ys : List A) → All P xs → All P ys → All P (xs ++ ys)
   all-append [] ys a b = b
   all-append (x ∷ xs) ys a b = (a .0, all-append xs ys (a .1) b)

@@ -22,6 +22,15 @@ module _ {A : Type 0} (p : A → Bool) where
   any-false [] e = tt
   any-false (x ∷ xs) e = let w = both-false (p x) (anyOf p xs) e in (w .0, any-false xs (w .1))
 
+  -- none of two lists has p
+  pub any-false-append : (xs ys : List A) → anyOf p (xs ++ ys) ≡ false → (anyOf p xs ≡ false) × (anyOf p ys ≡ false)
+  unfolding anyOf
+  any-false-append [] ys e = (refl, e)
+  any-false-append (x ∷ xs) ys e =
+      let w = both-false (p x) (anyOf p (xs ++ ys)) e in
+      let v = any-false-append xs ys (w .1) in
+      (rw (w .0) (v .0), v .1)
+
   -- one has p
   pub any-true : (xs : List A) → anyOf p xs ≡ true → (x : A) × (p x ≡ true)
   unfolding anyOf

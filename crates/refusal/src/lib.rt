@@ -21,6 +21,8 @@ pub enum Refusal {
     FigureTooLarge,
     OutputTooShort,
     TooManyFileRows,
+    TooManyFileGroups,
+    SavedTableLayout,
 }
 
 // The number that document 01 or a card gives a refusal.
@@ -45,5 +47,7 @@ pub fn number_of(r: Refusal) -> u32
         Refusal::FigureTooLarge => 15,
         Refusal::OutputTooShort => 16,
         Refusal::TooManyFileRows => 17,
+        Refusal::TooManyFileGroups => 18,
+        Refusal::SavedTableLayout => 19,
     }
 }

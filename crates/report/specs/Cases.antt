@@ -7,7 +7,8 @@ use Rattle.codec.specs.Bytes.{number, bytes, numberAt}
 use Rattle.codec.specs.Cells.{cells, image}
 use Rattle.level.specs.Level.{top, topFrom, given, contribution}
 use Rattle.patch.specs.Cases.{reportInput}
-use Rattle.patch.specs.Serializer.{trailerOf, fileOf}
+use Rattle.trailer.specs.Trailer.{trailerOf}
+use Rattle.patch.specs.Serializer.{fileOf}
 use Rattle.patch.specs.File.{marked, outside, overlap, readGrounds, readOutcome, column, keyColumn, valueColumn}
 use Rattle.columns.specs.declared.Kind.the-variants.{Double}
 use Rattle.columns.specs.Columns.{width, rowsFrom, rowsOf, columnsFit}

@@ -19,7 +19,7 @@ use refusal::Refusal;
 // The largest row count that a record has room for.
 pub const MOST_ROWS: u64 = 4294967295;
 
-// What an add or a merge answers: the table's new group count, or why the call is refused.
+// What an add, a merge or a load answers: the table's new group count, or why the call is refused.
 pub enum TableAnswer {
     Groups(usize),
     Refused(Refusal),

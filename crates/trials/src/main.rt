@@ -194,12 +194,29 @@ fn print_totals(t: &[u8], g: u64) {
     print(rows);
 }
 
-// Group count and digest of a table, its totals, those for a record too many, then its sections.
+// What a load of a file into a table says, and what it leaves there.
+fn print_load(file: &[u8], t: &mut [u8]) {
+    print(word(exports::girth_load(file, t)));
+    print(digest(t));
+}
+
+// What a save says and leaves in an output with room for 6 groups, then the load of the file that was written (of no bytes where it is refused), into a table with room for 5.
+fn print_save(t: &[u8], g: u64) {
+    let mut out = [0xC3u8; 400];
+    let mut other = [0x5Au8; 320];
+    let r = exports::girth_save(t, g, &mut out);
+    print(word(r));
+    print(digest(&out));
+    print_load(part(&out, word(r) as usize), &mut other);
+}
+
+// Group count and digest of a table, its totals, those for a record too many, how it is saved and loaded, then its sections.
 fn print_table(t: &[u8], g: u64) {
     print(g);
     print(digest(t));
     print_totals(t, g);
     print_totals(t, std::num::wrapping_add_u64(g, 1));
+    print_save(t, g);
     end_line();
     let mut key: u32 = 0;
     while key < 17 {
@@ -328,10 +345,75 @@ fn run_files() {
     }
 }
 
+// A saved table of one record, now and then with a row count of 0 or with a wrong field of its trailer, loaded into a table that may be a byte too short.
+fn run_saved_file(x: u64) {
+    let mut file = [0u8; 80];
+    let mut t = [0x5Au8; 72];
+    let mut short = [0x5Au8; 63];
+    codec::put_u32(&mut file, 0, (x >> 48) as u32);
+    codec::put_u32(&mut file, 4, ((x % 8 + 6) / 7) as u32);
+    codec::put_u32(&mut file, 64, (1 + ((x >> 8) % 8) / 7) as u32);
+    codec::put_u32(&mut file, 68, (80 + ((x >> 16) % 8) / 7) as u32);
+    codec::put_u32(&mut file, 72, (((x >> 24) % 8) / 7) as u32);
+    codec::put_u32(&mut file, 76, (0x4C424154 - ((x >> 32) % 8) / 7) as u32);
+    if (x >> 40) % 4 == 0 {
+        print_load(&file, &mut short);
+    } else {
+        print_load(&file, &mut t);
+    }
+    end_line();
+}
+
+fn run_saved_files() {
+    let mut x: u64 = 0xBADC0FFEE;
+    let mut i: u32 = 0;
+    while i < 100 {
+        x = next(x);
+        run_saved_file(x);
+        i += 1;
+    }
+}
+
+// n rows of the double 1, each in a section of its own.
+fn fill_sections(keys: &mut [u8], values: &mut [u8], n: usize)
+    requires { ⌜ n < 65536 ⌝ }
+{
+    let mut i = 0;
+    while i < n {
+        put_key(keys, i, i as u32);
+        put_value(values, i, 0x3FF0000000000000);
+        i += 1;
+    }
+}
+
+// A table of 1,024 groups, which cannot be saved, and its first 1,023, which can: the file, and the table that it is loaded into.
+fn save_full(t: &[u8], out: &mut [u8], other: &mut [u8]) {
+    print(word(exports::girth_save(t, 1024, out)));
+    print(digest(out));
+    let r = exports::girth_save(t, 1023, out);
+    print(word(r));
+    print(digest(out));
+    print_load(part(out, word(r) as usize), other);
+    end_line();
+}
+
+fn run_full() {
+    let mut keys = [0u8; 4096];
+    let mut values = [0u8; 8192];
+    fill_sections(&mut keys, &mut values, 1024);
+    let mut t = [0u8; 65536];
+    let mut work = [0u8; 65536];
+    print(word(exports::girth_add(&mut t, 0, &keys, &values, &mut work)));
+    let mut out = [0xC3u8; 65560];
+    save_full(&t, &mut out, &mut work);
+}
+
 fn main() {
     run_ones();
     run_doubling();
     run_files();
+    run_saved_files();
+    run_full();
     let mut x: u64 = 88172645463325252;
     let mut i: u64 = 0;
     while i < 320 {

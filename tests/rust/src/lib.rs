@@ -37,6 +37,14 @@ pub fn totals(table: &[u8], g: u64) -> Result<Totals, u32> {
     number(girths::totals(table, g))
 }
 
+pub fn save(table: &[u8], g: u64, out: &mut [u8]) -> Result<usize, u32> {
+    number(girths::save(table, g, out))
+}
+
+pub fn load(file: &[u8], table: &mut [u8]) -> Result<u64, u32> {
+    number(girths::load(file, table))
+}
+
 pub fn report(file: &[u8], out: &mut [u8]) -> Result<usize, u32> {
     number(girths::report(file, out))
 }

@@ -175,6 +175,46 @@ fn rewritten(file: &[u8]) -> Vec<u8> {
     out
 }
 
+/// Random bytes of which none is 0, nor the byte that stands at its place in a file.
+fn strange(r: &mut Random, file: &[u8], n: usize) -> Vec<u8> {
+    let other = |(i, x): (usize, u8)| (x..=255).chain(1..x).find(|y| *y != 0 && file.get(i) != Some(y)).unwrap();
+    r.bytes(n).into_iter().enumerate().map(other).collect()
+}
+
+/// One save, compared with the model: the answer and every byte of the output; the table is only read.
+fn save_both(table: &[u8], g: u64, out: &mut [u8]) -> Result<usize, u32> {
+    let (expected, before, lent) = (model::save(table, g, out), out.to_vec(), table.to_vec());
+    let got = calls::save(table, g, out);
+    match &expected {
+        Ok((n, bytes)) => assert!(got == Ok(*n) && out == bytes, "{got:?}, expected {n}"),
+        Err(e) => assert!(got == Err(*e) && out == before, "{got:?}, expected refusal {e}"),
+    }
+    assert!(table == lent, "the call only reads the table");
+    got
+}
+
+/// One load, compared with the model: the answer and every byte of the table; the file is only read.
+fn load_both(file: &[u8], table: &mut [u8]) -> Result<u64, u32> {
+    let (expected, before, lent) = (model::load(file, table), table.to_vec(), file.to_vec());
+    let got = calls::load(file, table);
+    match &expected {
+        Ok((g, bytes)) => assert!(got == Ok(*g) && table == bytes, "{got:?}, expected {g}"),
+        Err(e) => assert!(got == Err(*e) && table == before, "{got:?}, expected refusal {e}"),
+    }
+    assert!(file == lent, "the call only reads the file");
+    got
+}
+
+/// The file of a table that can be saved.
+fn saved(r: &mut Random, table: &[u8], g: u64) -> Vec<u8> {
+    let length = 64 * g as usize + 16;
+    let room = length + r.below(99) as usize;
+    let mut out = strange(r, table, room);
+    assert_eq!(save_both(table, g, &mut out), Ok(length));
+    out.truncate(length);
+    out
+}
+
 #[test]
 fn bench_book() {
     let one = |b: u64| Section::of_rows(&[b]);
@@ -253,6 +293,9 @@ fn every_refusal() {
     assert_eq!(finish_both(&t, g, 7), Err(15));
     assert_eq!(finish_both(&t, 2, 7), Err(7));
     assert_eq!(totals_both(&[], 1), Err(7));
+    assert_eq!(save_both(&records(1024), 1024, &mut vec![5; 65552]), Err(18));
+    assert_eq!(save_both(&full, 1, &mut [5; 79]), Err(16));
+    assert_eq!(load_both(b"\0\0\0\0\x11\0\0\0\0\0\0\0TABL", &mut []), Err(19));
 }
 
 #[test]
@@ -704,6 +747,335 @@ fn totals_of_unsound_tables() {
     }
 }
 
+/// Sound records with rising keys, as many as asked.
+fn records(n: u32) -> Vec<u8> {
+    (0..n).flat_map(|i| Section { count: 4294967295 - i as u64, top: 1 + i % 52, totals: [-(i as i128), 1 << 39, 0] }.bytes(3 * i + 7)).collect()
+}
+
+/// 7, then 18, then 16: each alone, and each where those after it hold too.
+#[test]
+fn refusals_of_saving() {
+    let mut r = Random(15);
+    let full = records(1026);
+    let mut damaged = full.clone();
+    damaged[64 * 1023 + 12] = 1;
+    let (all, exact) = (full.len(), 64 * 1024);
+    for (table, length, g, room, answer) in [
+        (&full, all, 1025, 70000, Err(7)),
+        (&full, all, 1026, 0, Err(7)),
+        (&full, exact - 1, 1024, 70000, Err(7)),
+        (&full, exact - 1, 1024, 0, Err(7)),
+        (&full, 63, 1, 79, Err(7)),
+        (&full, 0, 1, 80, Err(7)),
+        (&damaged, all, 1024, 70000, Err(7)),
+        (&damaged, all, 1024, 0, Err(7)),
+        (&full, all, 1024, 70000, Err(18)),
+        (&full, all, 1024, 65552, Err(18)),
+        (&full, all, 1024, 65551, Err(18)),
+        (&full, exact, 1024, 65536, Err(18)),
+        (&full, exact, 1024, 0, Err(18)),
+        (&full, all, 1023, 65487, Err(16)),
+        (&damaged, exact, 1023, 0, Err(16)),
+        (&full, 64, 1, 79, Err(16)),
+        (&full, 64, 1, 64, Err(16)),
+        (&full, 0, 0, 15, Err(16)),
+        (&full, all, 0, 0, Err(16)),
+        (&full, all, 1023, 65488, Ok(65488)),
+        (&damaged, all, 1023, 65489, Ok(65488)),
+        (&full, 64 * 1023, 1023, 70000, Ok(65488)),
+        (&full, 64, 1, 80, Ok(80)),
+        (&full, 127, 1, 81, Ok(80)),
+        (&full, 0, 0, 16, Ok(16)),
+        (&full, all, 0, 99, Ok(16)),
+    ] {
+        let mut out = strange(&mut r, table, room);
+        assert_eq!(save_both(&table[..length], g, &mut out), answer, "{length} bytes, {g} records, {room}");
+    }
+}
+
+/// Group counts far beyond every table: 64 times some of them is a small number in 64 or 32 bits.
+#[test]
+fn saves_of_too_many_groups() {
+    let mut r = Random(25);
+    let full = records(1026);
+    for g in [1 << 32, (1 << 32) + 1, 1 << 58, (1 << 58) + 1, 1 << 63, u64::MAX] {
+        for room in [0, 16, 80, 70000] {
+            assert_eq!(save_both(&full, g, &mut strange(&mut r, &full, room)), Err(7), "{g} records, {room}");
+        }
+    }
+}
+
+/// A file of two records with any of its faults, at every place in the order: 3, 19 (for three of them), 16 and 7.
+#[test]
+fn refusals_of_loading() {
+    let mut r = Random(16);
+    let sound = records(2);
+    let mut seen = [0; 20];
+    for faults in 0..64 {
+        let has = |i: u32| faults >> i & 1 == 1;
+        let mut file = sound.clone();
+        file[64 + 4] = if has(5) { 0 } else { 1 };
+        file[64 + 5..64 + 8].fill(0);
+        file[64 + 16..].fill(0);
+        for x in [if has(1) { 3 } else { 2 }, if has(2) { 128 } else { 144 }, if has(3) { 1 << 24 } else { 0u32 }] {
+            file.extend(x.to_le_bytes());
+        }
+        file.extend(if has(0) { *b"LAST" } else { *b"TABL" });
+        // long enough for three records, or too short for two
+        let room = if has(4) { 127 } else { 192 + r.below(99) as usize };
+        let mut table = strange(&mut r, &file, room);
+        let first = (0..6).find(|i| has(*i)).map(|i| [3, 19, 19, 19, 16, 7][i as usize]);
+        assert_eq!(load_both(&file, &mut table), first.map_or(Ok(2), Err), "{faults:b}");
+        seen[first.unwrap_or(0) as usize] += 1;
+    }
+    assert_eq!((seen[0], seen[3], seen[19], seen[16], seen[7]), (1, 32, 28, 2, 1));
+}
+
+/// Lengths at which 1 and 2 hold, whatever else does; group counts and distances whose bytes are far too many, or few in 32 bits.
+#[test]
+fn lengths_of_saved_files() {
+    let mut r = Random(17);
+    let with = |n: usize, g: u32, distance: u32, zero: u32| {
+        let mut file: Vec<u8> = records(1100)[..n].to_vec();
+        for x in [g, distance, zero] {
+            file.extend(x.to_le_bytes());
+        }
+        file.extend(b"TABL");
+        file
+    };
+    let mut loads = |file: &[u8], room: usize| {
+        let mut table = strange(&mut r, file, room);
+        load_both(file, &mut table)
+    };
+    assert_eq!(loads(&with(64 * 1024, 1024, 65552, 0), 70000), Err(1));
+    assert_eq!(loads(&with(65521, 1023, 65488, 0), 70000), Err(1));
+    assert_eq!(loads(&vec![0xAB; 65537], 0), Err(1));
+    assert_eq!(loads(&with(65520, 1023, 65488, 0), 70000), Err(19));
+    assert_eq!(loads(&vec![0xAB; 65536], 0), Err(3));
+    assert_eq!(loads(&with(64 * 1023, 1023, 65488, 0), 64 * 1023), Ok(1023));
+    assert_eq!(loads(&with(64 * 1023, 1023, 65488, 0), 64 * 1023 - 1), Err(16));
+    let none = with(0, 0, 16, 0);
+    for cut in 1..=16 {
+        assert_eq!(loads(&none[cut..], 64), Err(2));
+        assert_eq!(loads(&none[..16 - cut], 0), Err(2));
+    }
+    assert_eq!(loads(&none, 0), Ok(0));
+    for (n, g, distance, zero) in [
+        (0, 0, 0, 0), (0, 0, 15, 0), (0, 0, 17, 0), (0, 0, 16 + (1 << 16), 0), (0, 0, 16, 1), (0, 0, 16, 1 << 31), (0, 1, 16, 0), (0, 1, 80, 0), (0, 1 << 26, 16, 0),
+        (0, u32::MAX, 16, 0), (0, u32::MAX, u32::MAX - 47, 0), (64, 1 + (1 << 26), 80, 0), (64, 0, 16, 0), (64, 1, 16, 0), (64, 1, 64, 0), (63, 1, 80, 0), (65, 1, 80, 0), (65, 1, 81, 0),
+        (64, 2, 80, 0), (128, 1, 80, 0), (128, 1, 144, 0), (128, 2, 80, 0), (128, 3, 144, 0), (65520, 1024, 65552, 0),
+    ] {
+        for room in [0, 63, 64, 70000] {
+            assert_eq!(loads(&with(n, g, distance, zero), room), Err(19), "{n} bytes, {g}, {distance}, {zero}");
+        }
+    }
+}
+
+/// From no group to as many as a file may have: outputs and tables that are a byte short, long enough and longer; both directions.
+#[test]
+fn sizes_of_saved_tables() {
+    let mut r = Random(18);
+    for g in [0, 1, 2, 3, 17, 1022, 1023] {
+        let (table, length) = (records(g as u32), 64 * g + 16);
+        let mut file = vec![];
+        for room in [length - 1, length, length + 1, length + 15, length + 64, 70000] {
+            let mut out = strange(&mut r, &table, room);
+            assert_eq!(save_both(&table, g as u64, &mut out).ok(), (room >= length).then_some(length));
+            file = out[..length.min(room)].to_vec();
+        }
+        for room in [64 * g - (g > 0) as usize, 64 * g, 64 * g + 1, 64 * g + 63, 64 * g + 64, 70000] {
+            let mut into = strange(&mut r, &file, room);
+            let answer = load_both(&file, &mut into);
+            assert_eq!(answer, if room < 64 * g { Err(16) } else { Ok(g as u64) });
+            if answer.is_ok() {
+                assert!(into[..64 * g] == table[..]);
+                assert_eq!(saved(&mut r, &into, g as u64), file);
+                assert_eq!(totals_both(&into, g as u64), totals_both(&table, g as u64));
+            }
+        }
+    }
+}
+
+/// Every byte of a small file changed to every other value, and the file cut and made longer at either end by each number of bytes.
+#[test]
+fn damaged_saved_files() {
+    let mut r = Random(19);
+    let table = [Section::of_rows(&[1f64.to_bits(), 0.1f64.to_bits()]).bytes(1), Section::of_rows(&[(-96f64).to_bits()]).bytes(258)].concat();
+    let file = saved(&mut r, &table, 2);
+    let mut seen = [0; 20];
+    let mut count = |r: &mut Random, file: &[u8]| {
+        let room = [128, 128, 129, 300, 127][r.below(5) as usize];
+        let mut into = strange(r, file, room);
+        seen[load_both(file, &mut into).err().unwrap_or(0) as usize] += 1;
+    };
+    for at in 0..file.len() {
+        for change in 1..=255 {
+            let mut damaged = file.clone();
+            damaged[at] ^= change;
+            count(&mut r, &damaged);
+        }
+    }
+    for n in 1..=file.len() {
+        let more = r.bytes(n);
+        let ends = [&file[n..], &file[..file.len() - n]];
+        for damaged in ends.into_iter().map(<[u8]>::to_vec).chain([[&more, &file[..]].concat(), [&file[..], &more].concat(), [&file[..n], &file[..]].concat()]) {
+            count(&mut r, &damaged);
+        }
+    }
+    assert!([0, 2, 3, 7, 16, 19].iter().all(|&i| seen[i] > 10), "{seen:?}");
+}
+
+/// An unsound record at every place of a well-formed file leaves the table as it was, also where that holds a sound table of as many records.
+#[test]
+fn unsound_saved_files() {
+    let mut r = Random(20);
+    let (table, other) = (records(5), records(9)[64 * 4..].to_vec());
+    let file = saved(&mut r, &table, 5);
+    let mut seen = [0; 2];
+    for _ in 0..4000 {
+        let mut damaged = file.clone();
+        let at = 64 * r.below(5) as usize;
+        damage(&mut r, &mut damaged[at..at + 64], &mut 1);
+        let mut into = other.clone();
+        let answer = load_both(&damaged, &mut into);
+        // an unsound table is no reason to refuse a sound file
+        let mut unsound = other.clone();
+        unsound[at + 12] = 9;
+        assert_eq!(load_both(&damaged, &mut unsound), answer);
+        seen[(answer == Err(7)) as usize] += 1;
+    }
+    assert!(seen[0] + seen[1] == 4000 && seen.iter().all(|&n| n > 200), "{seen:?}");
+}
+
+/// Random tables, a part of them unsound, into outputs of any length; what was saved is loaded into tables of any length.
+#[test]
+fn saves_and_loads() {
+    let mut r = Random(21);
+    let (mut seen, mut finished) = ([0; 20], 0);
+    for turn in 0..4000 {
+        let (room, span) = if turn % 200 == 0 { (1022 + r.below(4), 1 << 32) } else { (r.below(12), 1 + r.below(16)) };
+        let (mut t, mut g) = table(&mut r, room as usize, room as usize, span);
+        damage(&mut r, &mut t, &mut g);
+        let width = (64 * g + 16 + r.below(99)).saturating_sub(if r.chance(4) { 1 + r.below(99) } else { 0 }) as usize;
+        let mut out = strange(&mut r, &t, width);
+        let answer = save_both(&t, g, &mut out);
+        seen[answer.err().unwrap_or(0) as usize] += 1;
+        let Ok(length) = answer else { continue };
+        let file = &out[..length];
+        let width = (64 * g + r.below(99)).saturating_sub(if r.chance(4) { 1 + r.below(99) } else { 0 }) as usize;
+        let mut into = strange(&mut r, file, width);
+        if load_both(file, &mut into) != Ok(g) {
+            seen[1] += 1;
+            continue;
+        }
+        assert!(into[..64 * g as usize] == t[..64 * g as usize]);
+        assert_eq!(saved(&mut r, &into, g), file);
+        assert_eq!(totals_both(&into, g), totals_both(&t, g));
+        for record in t[..64 * g as usize].chunks(64).take(17) {
+            let key = u32::from_le_bytes(record[..4].try_into().unwrap());
+            for key in [key, key.wrapping_add(1)] {
+                assert_eq!(finish_both(&into, g, key), finish_both(&t, g, key));
+                finished += 1;
+            }
+        }
+    }
+    assert!([0, 1, 7, 16, 18].iter().all(|&i| seen[i] > 0) && finished > 1000, "{seen:?} {finished}");
+}
+
+/// The same adds and merges on a table that lives on and on one that is saved between them, and loaded over some other buffer.
+#[test]
+fn interrupted_tables() {
+    let mut r = Random(22);
+    let mut loads = 0;
+    for _ in 0..300 {
+        let span = 1 + r.below(12);
+        let (mut whole, mut g) = (r.bytes(64 * 12), 0);
+        let (mut parts, mut h) = (r.bytes(64 * 12), 0);
+        for _ in 0..8 {
+            if r.chance(2) {
+                let file = saved(&mut r, &parts, h);
+                let spare = r.below(64) as usize;
+                parts = strange(&mut r, &file, 64 * 12 + spare);
+                h = load_both(&file, &mut parts).unwrap();
+                loads += (h > 0) as u32;
+            }
+            let n = r.below(9) as usize;
+            let rows: Vec<(u32, u64)> = r.rows(n).into_iter().map(|b| (r.below(span) as u32, b)).collect();
+            let (k, v) = columns(&rows);
+            if r.chance(3) {
+                let mut second = r.bytes(64 * 12);
+                let g2 = calls::add(&mut second, 0, &k, &v, &mut [1; 64 * 12]).unwrap();
+                (g, h) = (merge_both(&mut whole, g, &second, g2).unwrap(), merge_both(&mut parts, h, &second, g2).unwrap());
+            } else {
+                g = add_both(&mut whole, g, &k, &v, &mut [1; 64 * 12]).unwrap();
+                h = add_both(&mut parts, h, &k, &v, &mut [1; 64 * 13]).unwrap();
+            }
+            assert!(g == h && whole[..64 * g as usize] == parts[..64 * g as usize]);
+        }
+        assert_eq!(totals_both(&parts, h), totals_both(&whole, g));
+        for key in 0..span as u32 {
+            finish_both(&parts, h, key).ok();
+            assert_eq!((calls::sum(&parts, h, key), calls::line(&parts, h, key)), (calls::sum(&whole, g, key), calls::line(&whole, g, key)));
+        }
+    }
+    assert!(loads > 500, "{loads}");
+}
+
+/// Files of saved tables, each with the rows that its table had when it was saved.
+#[derive(Default)]
+struct Shelf(Vec<(Vec<u8>, Rows)>);
+
+impl Shelf {
+    /// A save, at times into an output that is too short.
+    fn save(&mut self, r: &mut Random, (t, g, held): &(Vec<u8>, u64, Rows)) -> Result<u64, u32> {
+        let room = if r.chance(5) { r.below(64 * g + 16) } else { 64 * g + 16 + r.below(99) } as usize;
+        let mut out = strange(r, t, room);
+        let length = save_both(t, *g, &mut out)?;
+        out.truncate(length);
+        self.0.push((out, held.clone()));
+        Ok(length as u64)
+    }
+
+    /// A load of any file, or of none, which is read as an empty one.
+    fn load(&self, r: &mut Random, (t, g, held): &mut (Vec<u8>, u64, Rows)) -> Result<u64, u32> {
+        let (file, rows) = self.0.get(r.below(self.0.len() as u64 + 1) as usize).cloned().unwrap_or_default();
+        let answer = load_both(&file, t)?;
+        (*g, *held) = (answer, rows);
+        Ok(answer)
+    }
+}
+
+/// Lists of adds, merges, finishings, saves and loads, refused ones among them: the totals are those of the rows, where a loaded table has those of the
+/// saved one, and tables with the same rows have the same used bytes.
+#[test]
+fn lists_with_saves_and_loads() {
+    let mut r = Random(23);
+    let (mut seen, mut most, mut same) = ([0; 20], 0, 0);
+    for _ in 0..80 {
+        let span = 1 + r.below(12);
+        let (mut tables, mut shelf) = (Tables::random(&mut r), Shelf::default());
+        for _ in 0..200 {
+            let i = r.below(3) as usize;
+            let answer = match r.below(16) {
+                0 => finish_both(&tables.0[i].0, tables.0[i].1, r.below(span) as u32).map(|_| 0),
+                1 | 2 => tables.add(&mut r, i, span),
+                3 | 4 => shelf.save(&mut r, &tables.0[i]),
+                5 => shelf.load(&mut r, &mut tables.0[i]),
+                _ => tables.merge(i, (i + 1 + r.below(2) as usize) % 3),
+            };
+            most = most.max(tables.look());
+            seen[answer.err().filter(|e| !(13..16).contains(e)).unwrap_or(0) as usize] += 1;
+            let (a, b) = (&tables.0[i], &tables.0[(i + 1) % 3]);
+            if a.2 == b.2 {
+                assert!(a.1 == b.1 && a.0[..64 * a.1 as usize] == b.0[..64 * b.1 as usize]);
+                same += (a.1 > 0) as u32;
+            }
+        }
+    }
+    assert!([0, 2, 8, 9, 10, 11, 12, 16].iter().all(|&i| seen[i] > 20) && seen[7] == 0, "{seen:?}");
+    assert!(most > 2 * 4294967295 && same > 100, "{most} {same}");
+}
+
 /// The distance of demand 3: the kept value lies within n x largest x 2^-80 of the exact sum.
 #[test]
 fn distance() {
@@ -1054,6 +1426,36 @@ fn samples() {
         }
     }
     assert!(files >= 16);
+}
+
+/// Each saved table of samples/: its name tells the refusal, or the patch file whose rows it has. A file of one kind is none of the other.
+#[test]
+fn saved_samples() {
+    let mut r = Random(24);
+    let folder = concat!(env!("CARGO_MANIFEST_DIR"), "/../../samples");
+    let mut files = [0; 2];
+    for entry in std::fs::read_dir(folder).unwrap() {
+        let path = entry.unwrap().path();
+        if path.extension().is_none_or(|e| e != "table") {
+            continue;
+        }
+        let data = std::fs::read(&path).unwrap();
+        let mut table = strange(&mut r, &data, 4096);
+        let answer = load_both(&data, &mut table);
+        let name = path.file_name().unwrap().to_str().unwrap();
+        let refused = name.strip_prefix("refused-").map(|rest| rest.split('-').next().unwrap().parse().unwrap());
+        assert_eq!(answer.err(), refused, "{name}");
+        assert_eq!(read_both(&data).err(), if refused == Some(3) { Some(5) } else { Some(3) }, "{name}");
+        files[refused.is_some() as usize] += 1;
+        let Ok(g) = answer else { continue };
+        let patch = std::fs::read(path.with_extension("patch")).unwrap();
+        assert_eq!(load_both(&patch, &mut table), Err(3), "{name}");
+        let (n, k, v) = model::read(&patch).unwrap();
+        let mut added = r.bytes(4096);
+        assert_eq!(add_both(&mut added, 0, &patch[k..k + 4 * n], &patch[v..v + 8 * n], &mut [1; 4096]), Ok(g));
+        assert_eq!(saved(&mut r, &added, g), data, "{name}");
+    }
+    assert!(files[0] >= 4 && files[1] >= 5, "{files:?}");
 }
 
 /// A file that tools/mkpatch makes is accepted, has the rows of its text, and is what the library writes.

@@ -1,0 +1,2 @@
+-- Laws of the trailer.
+pub mod Laws

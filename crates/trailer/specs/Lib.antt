@@ -1,0 +1,3 @@
+-- The definitions that the contracts cite, and worked examples.
+pub mod Trailer
+pub mod Cases
