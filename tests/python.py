@@ -220,6 +220,25 @@ def test_sides():
     assert len(seen) == 18 and min(seen.values()) > 20, seen
 
 
+def test_figures():
+    """Mill figures beside exact fractions, an exact half going away from zero; a sum and its negative have opposite figures or the same refusal."""
+    r, seen = random.Random(16), Counter()
+    for _ in range(3000):
+        half, last = r.randrange(1, r.choice((999, 171798692)), 2) / 8, r.choice((-1, 1)) * 2.0 ** -60
+        x = r.choice((half, half * (1 + 2 ** 8 * last), r.uniform(0, 300), 21474836.475 + r.randrange(-4, 5) * 2.0 ** -28, 5e-324, 1e300))
+        exact = 100 * Fraction(x)
+        size = int(exact + Fraction(1, 2))
+        for sign in 1, -1:
+            table, g = table_of([(5, sign * x), (5, sign * last), (5, -sign * last)])
+            if size > 2147483647:
+                refused(15, girths.figure, table, g, 5)
+                refused(15, girths.line, table, g, 5)
+            else:
+                assert girths.figure(table, g, 5) == girths.line(table, g, 5).figure == sign * size, x
+        seen['refused' if size > 2147483647 else 'half' if exact.denominator == 2 else 'nothing' if size == 0 else 'other'] += 1
+    assert len(seen) == 4 and min(seen.values()) > 100, seen
+
+
 def test_zeros_of_refused_calls():
     """What a refused call gives by its pointers, which the calls of the module do not show."""
     rounded, huge = table_of([(1, 21474836.5), (1, 2.0 ** -30)]), table_of([(1, 1.7976931348623157e308)] * 2)

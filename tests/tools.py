@@ -145,9 +145,15 @@ def test_compare_words():
     assert doctored('00 13 1', '00 refused 15') == ['section 2: mill figure 13 hundredths in A, refused 15 in B']
     assert doctored('150 0', '150 1') == ['section 1: the same sum 3FF8000000000000 is not rounded in A, rounded up in B']
     assert doctored('13 1', '13 -1') == ['section 2: the same sum 3FC0000000000000 is rounded up in A, rounded down in B']
-    assert doctored('3FC0000000000000 13 1', 'BFC0000000000001 -12 -1') == [
+    assert doctored('3FC0000000000000 13 1', 'BFC0000000000001 -13 -1') == [
         'section 2: sum 3FC0000000000000 (0.125 mm, rounded up) in A, BFC0000000000001 (-0.12500000000000003 mm, rounded down) in B; '
-        'mill figure 13 hundredths in A, -12 hundredths in B, -25']
+        'mill figure 13 hundredths in A, -13 hundredths in B, -26']
+    half, above, below = 'BFC0000000000000', 'BFBFFFFFFFFFFFFF', 'BFC0000000000001'
+    for bits, x, y, up_in in ((half, -12, -13, 'A'), (half, -13, -12, 'B'), (half, -13, -14, ''), (half, -11, -14, ''), (above, -12, -13, ''),
+                              (below, -13, -12, ''), ('3FC0000000000000', 12, 13, '')):
+        a, b = (with_total(HEAD + f'4 1 {bits} {z} 0\n') for z in (x, y))
+        words = f' (an exact half, which goes up in {up_in})' if up_in else ''
+        assert difference(a, b) == [f'section 4: mill figure {x} hundredths in A, {y} hundredths in B, {y - x:+d}{words}']
     assert doctored('00 13 1', '01 refused 15') == [
         'section 2: sum 3FC0000000000000 (0.125 mm, rounded up) in A, 3FC0000000000001 (0.12500000000000003 mm) in B, neighbouring doubles; '
         'mill figure 13 hundredths in A, refused 15 in B']

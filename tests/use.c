@@ -28,13 +28,14 @@ static int gives_line(uint64_t g, uint32_t key, int64_t answer, uint64_t count, 
 }
 
 /* Sections of three rows, and the same with the signs turned: ties that go down and up, one of them to a power of 2; a sum that is not
- * rounded; one whose mill figure is refused; and a refused sum. A refused call gives zeros. */
+ * rounded; one whose mill figure is an exact half; one whose mill figure is refused; and a refused sum. A refused call gives zeros. */
 static int finishes(void) {
     static const struct { uint64_t rows[3], bits; int64_t sum, line, figure, side; } sections[] = {
         {{0x3FF0000000000000, 0x3CA0000000000000, 0}, 0x3FF0000000000000, 0, 0, 100, -1},
         {{0x3FF0000000000001, 0x3CA0000000000000, 0}, 0x3FF0000000000002, 0, 0, 100, 1},
         {{0x3FFFFFFFFFFFFFFF, 0x3CA0000000000000, 0}, 0x4000000000000000, 0, 0, 200, 1},
         {{0x3FF0000000000000, 0x3FE0000000000000, 0}, 0x3FF8000000000000, 0, 0, 150, 0},
+        {{0x3FC0000000000000, 0, 0}, 0x3FC0000000000000, 0, 0, 13, 0},
         {{0x41747AE148000000, 0x3E10000000000000, 0}, 0x41747AE148000000, 0, -15, 0, -1},
         {{0x7FEFFFFFFFFFFFFF, 0x7FEFFFFFFFFFFFFF, 0}, 0, -14, -14, 0, 0},
     };

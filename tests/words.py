@@ -99,7 +99,6 @@ ONE = {
     "reduced": "every limb has 40 digits",
     "same": "the limbs stand for this number",
     "near": "nothing is nearer",
-    "HalfUp": "an exact half goes up: the record, and the field that says so",
     # examples
     "computed": "that the definitions give what the examples expect",
     "input": "the file of an example",

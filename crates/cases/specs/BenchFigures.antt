@@ -101,8 +101,8 @@ benchFigures =
     -- B11: the largest double once, and twice
     ∷ entry (0x7FEFFFFFFFFFFFFF ∷ []) (sum (accepted 0x7FEFFFFFFFFFFFFF))
     ∷ entry (0x7FEFFFFFFFFFFFFF ∷ 0x7FEFFFFFFFFFFFFF ∷ []) (sum (refused 14))
-    -- B12: 0.125, -0.125 and 21474836
+    -- B12: 0.125, -0.125 (by Card 5) and 21474836
     ∷ entry (0x3FC0000000000000 ∷ []) (mill (accepted (pos 13)))
-    ∷ entry (0xBFC0000000000000 ∷ []) (mill (accepted (negℤ (pos 12))))
+    ∷ entry (0xBFC0000000000000 ∷ []) (mill (accepted (negℤ (pos 13))))
     ∷ entry (0x41747AE140000000 ∷ []) (mill (accepted (pos 2147483600)))
     ∷ []

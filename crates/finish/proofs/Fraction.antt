@@ -15,23 +15,23 @@ use Rattle.refusal.specs.Outcome.{accepted, refused}
 use Rattle.level.specs.Double.{exponentField, fraction, significand, magnitude, negative, finiteBits, signed}
 use Rattle.level.proofs.Double.{significand-normal}
 use Rattle.level.proofs.Binary64.{finite-binary64, value-binary64}
-use Rattle.finish.specs.Figure.{millFigure, beyond}
+use Rattle.finish.specs.Figure.{awayFromZero, millFigure, beyond}
 use Rattle.limbs.specs.Nearest.{nearestBy}
 use Rattle.limbs.proofs.Nearest.{nearest-same}
 use Rattle.finish.proofs.Hundredths.{hundredths-units, far, figure-beyond}
 
--- the size of the figure of n units with the sign s
-abbrev pub figureSize : Bool → ℕ → ℕ
-figureSize s n = nearestBy (λ (q : ℕ). not s) (n * 100) (2 ^ 1074)
+-- the size of the figure of n units
+abbrev pub figureSize : ℕ → ℕ
+figureSize n = nearestBy awayFromZero (n * 100) (2 ^ 1074)
 
-value-figure : (x : Float) (s : Bool) (a : ℕ) → HasValue x s a (2 ^ 1074) → millFigure x ≡ signed s (figureSize s a)
+value-figure : (x : Float) (s : Bool) (a : ℕ) → HasValue x s a (2 ^ 1074) → millFigure x ≡ signed s (figureSize a)
 unfolding millFigure
 value-figure nan s a h = absurd h
 value-figure (inf t) s a h = absurd h
 value-figure (fin t m e) s a h =
     let same : m * up e * 100 * 2 ^ 1074 ≡ a * 100 * down e = mul-right-comm (m * up e) 100 (2 ^ 1074) ∙ ap (λ (x : ℕ). x * 100) (h .1) ∙ mul-right-comm a (down e) 100 in
-    ap (λ (b : Bool). signed b (nearestBy (λ (q : ℕ). not b) (m * up e * 100) (down e))) (h .0)
-    ∙ ap (λ (x : ℕ). signed s x) (nearest-same (λ (q : ℕ). not s) (m * up e * 100) (down e) (a * 100) (2 ^ 1074) (down-pos e) (pow-pos 1074) same)
+    ap (λ (b : Bool). signed b (nearestBy awayFromZero (m * up e * 100) (down e))) (h .0)
+    ∙ ap (λ (x : ℕ). signed s x) (nearest-same awayFromZero (m * up e * 100) (down e) (a * 100) (2 ^ 1074) (down-pos e) (pow-pos 1074) same)
 
 pub not-nan : (x : Float) → T (Scale.finite x) → T (not (isNan x))
 unfolding isNan
@@ -41,7 +41,7 @@ not-nan (fin s m e) h = tt
 
 -- a finite float, by its bits
 module _ (x : Float) (f : T (fits binary64 x)) (h : T (Scale.finite x)) where
-  pub bits-figure : millFigure x ≡ signed (negative (toBits binary64 x)) (figureSize (negative (toBits binary64 x)) (magnitude (toBits binary64 x)))
+  pub bits-figure : millFigure x ≡ signed (negative (toBits binary64 x)) (figureSize (magnitude (toBits binary64 x)))
   bits-figure =
       let b = toBits binary64 x in
       let e = ofBits-toBits binary64 x f in
@@ -50,10 +50,10 @@ module _ (x : Float) (f : T (fits binary64 x)) (h : T (Scale.finite x)) where
 
   -- where its field is at most 1074
   pub near-figure : (r : ℕ) → r + (exponentField (toBits binary64 x) - 1) ≡ 1074
-      → signed (negative (toBits binary64 x)) (nearestBy (λ (q : ℕ). not (negative (toBits binary64 x))) (significand (toBits binary64 x) * 100) (2 ^ r)) ≡ millFigure x
+      → signed (negative (toBits binary64 x)) (nearestBy awayFromZero (significand (toBits binary64 x) * 100) (2 ^ r)) ≡ millFigure x
   near-figure r e =
       let b = toBits binary64 x in
-      ap (λ (n : ℕ). signed (negative b) n) (sym (hundredths-units (λ (q : ℕ). not (negative b)) (significand b) (exponentField b - 1) r e)) ∙ sym bits-figure
+      ap (λ (n : ℕ). signed (negative b) n) (sym (hundredths-units awayFromZero (significand b) (exponentField b - 1) r e)) ∙ sym bits-figure
 
   -- a field from 1075 on has a hidden digit, and its value is 2^52 at least
   pub far-figure : 1074 < exponentField (toBits binary64 x) → refused 15 ≡ cond (beyond (millFigure x)) (refused 15) (accepted (millFigure x))
@@ -62,4 +62,4 @@ module _ (x : Float) (f : T (fits binary64 x)) (h : T (Scale.finite x)) where
       let k : 1074 ≤ exponentField b - 1 = omega arith in
       let g : 2 ^ 52 ≤ significand b = le-trans (le-add-right (2 ^ 52) (fraction b)) (le-of-eq (sym (significand-normal b (λ z. lt-irrefl 0 (omega arith))))) in
       let m : 2 ^ 1126 ≤ magnitude b = le-trans (le-of-eq (pow-add 2 52 1074)) (mul-le-mul g (pow-mono k)) in
-      rw bits-figure (figure-beyond (negative b) (figureSize (negative b) (magnitude b)) (far (λ (q : ℕ). not (negative b)) (magnitude b) m))
+      rw bits-figure (figure-beyond (negative b) (figureSize (magnitude b)) (far awayFromZero (magnitude b) m))

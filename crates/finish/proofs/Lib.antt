@@ -8,3 +8,4 @@ pub mod Hundredths
 pub mod Fraction
 pub mod Halves
 pub mod Outcomes
+pub mod Negated

@@ -41,7 +41,7 @@ Best n u x y = (absDiff n (y * u) ≤ absDiff n (x * u)) × ((x ≡ y → ⊥) �
 
 -- y units are at most half a unit from n
 module _ (n u x y : ℕ) (p : 0 < u) (upper : y * u * 2 ≤ n * 2 + u) (lower : n * 2 ≤ y * u * 2 + u) where
-  near-best : absDiff n (y * u) ≤ absDiff n (x * u)
+  pub near-best : absDiff n (y * u) ≤ absDiff n (x * u)
   near-best =
       ⊎-elim
       (λ g. ⊎-elim (λ e. let m : x * u ≡ y * u = ap (λ (z : ℕ). z * u) e in omega arith) (λ l. let m : suc x * u ≤ y * u = mul-le-mul-right u l in omega arith) (eq-or-lt-of-le g))
@@ -100,11 +100,11 @@ digits-even n m j h d e =
 
 -- ---- with signs
 
-same-sign : (s : Bool) (n m : ℕ) → natAbs (signed s n -ℤ signed s m) ≡ absDiff n m
+pub same-sign : (s : Bool) (n m : ℕ) → natAbs (signed s n -ℤ signed s m) ≡ absDiff n m
 same-sign false n m = ap natAbs (sub-signed n m) ∙ natAbs-signed (ltb n m) (absDiff n m)
 same-sign true n m = simp ints (omega arith)
 
-other-sign : (s : Bool) (n m : ℕ) → natAbs (signed s n -ℤ signed (not s) m) ≡ n + m
+pub other-sign : (s : Bool) (n m : ℕ) → natAbs (signed s n -ℤ signed (not s) m) ≡ n + m
 other-sign false n m = simp ints (omega arith)
 other-sign true n m = simp ints (omega arith)
 

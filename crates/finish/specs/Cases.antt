@@ -69,11 +69,13 @@ sumsOfRows =
     ∷ refused 14 ∷ sumWithBits 0xFFEFFFFFFFFFFFFF Greater
     ∷ []
 
--- 0.375 and -0.375; 1.5; the doubles on either side of 0.005, of -0.005, of 21474836.475 and of its negative;
+-- 0.375 and 0.625, whose hundredths are exact halves, and their negatives; 1.5; the largest such doubles in range; the doubles on either side of 0.005,
+-- of -0.005, of 21474836.475 and of its negative;
 -- those nearest to 21474836.47 and its negative; 21474836.5 and its negative; the smallest in size
 figureRows : List ℕ
 figureRows =
-    0x3FD8000000000000 ∷ 0xBFD8000000000000 ∷ 0x3FF8000000000000
+    0x3FD8000000000000 ∷ 0xBFD8000000000000 ∷ 0x3FE4000000000000 ∷ 0xBFE4000000000000 ∷ 0x3FF8000000000000
+    ∷ 0x41747AE146000000 ∷ 0xC1747AE146000000
     ∷ 0x3F747AE147AE147A ∷ 0x3F747AE147AE147B ∷ 0xBF747AE147AE147A ∷ 0xBF747AE147AE147B
     ∷ 0x41747AE147999999 ∷ 0x41747AE14799999A ∷ 0xC1747AE147999999 ∷ 0xC1747AE14799999A
     ∷ 0x41747AE147851EB8 ∷ 0xC1747AE147851EB8
@@ -92,7 +94,8 @@ negated n = accepted (negℤ (pos n))
 -- their figures
 figuresOfRows : List (Outcome ℤ)
 figuresOfRows =
-    natural 38 ∷ negated 37 ∷ natural 150
+    natural 38 ∷ negated 38 ∷ natural 63 ∷ negated 63 ∷ natural 150
+    ∷ natural 2147483638 ∷ negated 2147483638
     ∷ natural 0 ∷ natural 1 ∷ natural 0 ∷ negated 1
     ∷ natural 2147483647 ∷ refused 15 ∷ negated 2147483647 ∷ refused 15
     ∷ natural 2147483647 ∷ negated 2147483647

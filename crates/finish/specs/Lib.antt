@@ -3,6 +3,7 @@ pub mod Sum
 pub mod Side
 pub mod Figure
 pub mod Finish
+pub mod Negated
 pub mod Answer
 pub mod Raised
 pub mod Steps

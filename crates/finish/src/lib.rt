@@ -5,9 +5,9 @@ use record::Place;
 use record::Record;
 use refusal::Refusal;
 ghost use mathlib.Core.Path.{_≡_};
-ghost use mathlib.Core.Bool.{cond, not};
+ghost use mathlib.Core.Bool.{cond};
 ghost use mathlib.Core.Option.{some};
-ghost use Prim.Native.Nat.{ℕ, _+_, _-_, _*_, _%_, _^_, _<_, _≤_};
+ghost use Prim.Native.Nat.{_+_, _-_, _*_, _%_, _^_, _<_, _≤_};
 ghost use lib.Dec.{T};
 ghost use lib.IntN.{natAbs};
 ghost use lib.Ieee.Scale.{finite};
@@ -17,7 +17,7 @@ ghost use Rattle.refusal.specs.Outcome.{accepted, refused};
 ghost use Rattle.record.specs.Sound.{soundRecord};
 ghost use Rattle.record.specs.Section.{kept, meaning};
 ghost use Rattle.limbs.specs.Nearest.{nearestBy};
-ghost use Rattle.finish.specs.Figure.{millFigure, beyond};
+ghost use Rattle.finish.specs.Figure.{awayFromZero, millFigure, beyond};
 ghost use Rattle.finish.specs.Finish.{figureOf, lineOf, sumOutcome, figureOutcome, lineOutcome};
 ghost use Rattle.finish.specs.Answer.{sumAnswer, figureAnswer, lineAnswer};
 ghost use Rattle.finish.specs.Side.{oppositeSide};
@@ -138,21 +138,16 @@ pub fn record_sum(r: Record) -> SectionSum
     sum_of_bits(rounding.unsigned, d.negative, side)
 }
 
-// 100 times m / 2^r to the nearest whole number; an exact half goes up, which for a negative sum is down in size.
-fn nearest_hundredths(m: u64, r: u64, negative: bool) -> u64
+// 100 times m / 2^r to the nearest whole number, an exact half going to the larger one, which of a size is away from zero.
+fn nearest_hundredths(m: u64, r: u64) -> u64
     requires { ⌜ (m < 2 ^ 53) × (0 < r) ⌝ }
-    ensures { λ n. ⌜ n ≡ nearestBy (λ (q : ℕ). not negative) (m * 100) (2 ^ r) ⌝ }
+    ensures { λ n. ⌜ n ≡ nearestBy awayFromZero (m * 100) (2 ^ r) ⌝ }
 {
     if r > 62 {
         return 0;
     }
     let n = m * 100;
-    limbs::round_by(
-        n >> r,
-        level::last_digits(n, r),
-        level::power(r - 1),
-        !negative,
-    )
+    limbs::round_by(n >> r, level::last_digits(n, r), level::power(r - 1), true)
 }
 
 // How many binary digits of the significand stand below 1.
@@ -188,11 +183,7 @@ fn mill_figure(sum: f64) -> FigureAnswer
     }
     let negative = level::is_negative(bits);
     figure_of_size(
-        nearest_hundredths(
-            level::significand(bits),
-            digits_below_one(exponent),
-            negative,
-        ),
+        nearest_hundredths(level::significand(bits), digits_below_one(exponent)),
         negative,
     )
 }

@@ -255,7 +255,7 @@ fn bench_book() {
         let (t, g) = of_values(&[x.to_bits()]);
         finish_both(&t, g, 7)
     };
-    assert_eq!((figure(0.125), figure(-0.125), figure(21474836.0)), (Ok(13), Ok(-12), Ok(2147483600)));
+    assert_eq!((figure(0.125), figure(-0.125), figure(21474836.0)), (Ok(13), Ok(-13), Ok(2147483600)));
     for (n, carry, residue) in [(65535, 0i64, (1u64 << 50) - (1 << 34)), (65536, 1, 0)] {
         let (t, _) = of_values(&vec![1f64.to_bits(); n]);
         assert_eq!(t[16..32], [residue.to_le_bytes(), carry.to_le_bytes()].concat());
@@ -1089,6 +1089,58 @@ fn distance() {
         let kept = model::find(&t, g, 7).unwrap().kept();
         assert!(kept.less(exact).size().shl(80).at_most(largest.times(n as u64)));
     }
+}
+
+/// Three rows whose sum is an exact half of a hundredth, an odd number of eighths; and its mill figure, which is in range.
+fn half_hundredths(r: &mut Random) -> (Vec<u64>, i64) {
+    let most = if r.chance(2) { 85899346 } else { 500 };
+    let j = r.below(most) as i64 * 2 + 1;
+    let (a, b) = (r.below(1 << 30) as i64, r.below(1 << 30) as i64);
+    let rows = [a - b, b, j - a].map(|eighths| (eighths as f64 / 8.0).to_bits());
+    (rows.to_vec(), (25 * j + 1) / 2)
+}
+
+/// Rows, and the same with their signs turned, have mill figures of opposite signs or the same refusal.
+#[test]
+fn mirrored_figures() {
+    let mut r = Random(16);
+    let (mut refused, mut nothing, mut beside) = ([0; 16], 0, [0; 2]);
+    for turn in 0..12000 {
+        let mut expected = None;
+        let rows = match turn % 5 {
+            0 => {
+                let (rows, figure) = half_hundredths(&mut r);
+                expected = Some(figure);
+                rows
+            }
+            // a double beside an exact half: the figure is that of the half, or one less in size
+            1 => {
+                let (rows, figure) = half_hundredths(&mut r);
+                let x = rows.iter().map(|&b| f64::from_bits(b)).sum::<f64>();
+                let next = r.below(2);
+                expected = Some(figure - 1 + next as i64);
+                beside[next as usize] += 1;
+                vec![x.to_bits() - 1 + 2 * next]
+            }
+            2 => vec![21474836.475f64.to_bits() + r.below(9) - 4, r.below(2) << 63],
+            3 => vec![0x7FEFFFFFFFFFFFFF, (0x7C8 << 52) + r.next() % (1 << 54)],
+            _ => {
+                let n = 1 + r.below(9) as usize;
+                r.rows(n)
+            }
+        };
+        let figures = [0, 1 << 63].map(|sign| {
+            let (t, g) = of_values(&rows.iter().map(|b| b ^ sign).collect::<Vec<_>>());
+            finish_both(&t, g, 7)
+        });
+        assert_eq!(figures[1], figures[0].map(|z| -z), "{rows:X?}");
+        assert!(expected.is_none_or(|z| figures[0] == Ok(z)), "{rows:X?}");
+        match figures[0] {
+            Ok(z) => nothing += (z == 0) as u32,
+            Err(e) => refused[e as usize] += 1,
+        }
+    }
+    assert!(nothing > 100 && refused[14] > 100 && refused[15] > 100 && beside.iter().all(|&n| n > 100), "{nothing} {refused:?} {beside:?}");
 }
 
 /// How often a sum, and how often a finished line, of each sign had each of the sides -1, 0 and 1; a sum of bits 0 counts as neither.

@@ -1,13 +1,13 @@
 use mathlib.Core.Path.{_≡_, sym, ap, ap₂, _∙_, subst}
-use mathlib.Core.Bool.{Bool, not, cond}
+use mathlib.Core.Bool.{Bool, cond}
 use Prim.Native.Nat.{ℕ, _+_, _-_, _*_, _^_}
 use native.Mathlib.Nat.{lt-of-lt-of-le, lt-of-le-of-lt, le-of-eq}
 use lib.Dec.{T}
 use lib.IntN.{ℤ}
 use lib.Ieee.{binary64, toBits, fits}
 use Rattle.refusal.specs.Outcome.{accepted, refused}
-use Rattle.level.specs.Double.{exponentField, significand, negative, signed}
-use Rattle.finish.specs.Figure.{millFigure, beyond}
+use Rattle.level.specs.Double.{exponentField, significand, signed}
+use Rattle.finish.specs.Figure.{awayFromZero, millFigure, beyond}
 use Rattle.limbs.specs.Nearest.{nearestBy}
 use Rattle.finish.proofs.Fraction.{not-nan, near-figure, far-figure}
 use Rattle.level.proofs.Double.{significand-lt}
@@ -40,8 +40,8 @@ returns-2 c =
     let f = c .before .before .before .before .before .before .exponent-field in
     let s = c .before .before .before .before .before .before .before in
     let b = toBits binary64 (s .args .sum) in
-    let size : n .result ≡ nearestBy (λ (q : ℕ). not (negative b)) (significand b * 100) (2 ^ p .result) =
-    n .ensures ∙ ap₂ (λ (m : ℕ) (t : Bool). nearestBy (λ (q : ℕ). not t) (m * 100) (2 ^ p .result)) (d .ensures) (g .ensures) in
+    let size : n .result ≡ nearestBy awayFromZero (significand b * 100) (2 ^ p .result) =
+    n .ensures ∙ ap (λ (m : ℕ). nearestBy awayFromZero (m * 100) (2 ^ p .result)) (d .ensures) in
     let below-one : p .result + (exponentField b - 1) ≡ 1074 = ap (λ (x : ℕ). p .result + (x - 1)) (sym (f .ensures)) ∙ p .ensures .0 in
     let e : signed (g .result) (n .result) ≡ millFigure (s .args .sum) = ap₂ (λ (t : Bool) (m : ℕ). signed t m) (g .ensures) size ∙ near-figure (s .args .sum) (fits-here s) (s .pre) (p .result) below-one in
     c .figure-of-size .ensures ∙ ap (λ (z : ℤ). cond (beyond z) (refused 15) (accepted z)) e

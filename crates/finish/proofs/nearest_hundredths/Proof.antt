@@ -1,17 +1,18 @@
 use mathlib.Core.Path.{_≡_, _∙_}
-use mathlib.Core.Bool.{not}
-use Prim.Native.Nat.{ℕ, _*_, _/_, _^_, _<_, compare}
+use mathlib.Core.Bool.{true}
+use Prim.Native.Nat.{_*_, _/_, _^_, _<_, compare}
 use native.Mathlib.Nat.{lt-of-le-of-lt, le-trans, le-of-eq, mod-le}
 use native.Mathlib.Omega.{arith}
 use lib.Pow.{shr-le}
 use Rattle.limbs.specs.Nearest.{rounded}
+use Rattle.finish.specs.Figure.{awayFromZero}
 use Rattle.finish.proofs.Hundredths.{hundredths-zero, hundredths-round}
 use borrow.Author.Needs.{needs}
 use Rattle.finish.proofs.nearest_hundredths.Statement.{statement}
 use Rattle.finish.proofs.nearest_hundredths.Tie as tie
 
 returns : tie.Need-returns
-returns c = hundredths-zero (λ (q : ℕ). not (c .before .args .negative)) (c .before .args .m) (c .before .args .r) (c .before .pre .0) (c .if1 .taken)
+returns c = hundredths-zero awayFromZero (c .before .args .m) (c .before .args .r) (c .before .pre .0) (c .if1 .taken)
 
 round-by-requires : tie.Need-round-by-requires
 round-by-requires c κs =
@@ -24,9 +25,9 @@ returns-2 : tie.Need-returns-2
 returns-2 c =
     let s = c .before .before .before .before in
     let n = s .args .m * 100 in
-    let e : c .round-by .result ≡ rounded (not (s .args .negative)) (n / 2 ^ s .args .r) (compare (c .before .before .last-digits .result) (c .before .power .result)) = c .round-by .ensures in
+    let e : c .round-by .result ≡ rounded true (n / 2 ^ s .args .r) (compare (c .before .before .last-digits .result) (c .before .power .result)) = c .round-by .ensures in
     e
-    ∙ hundredths-round (λ (q : ℕ). not (s .args .negative)) (s .args .m * 100) (s .args .r) _ _ (s .pre .1) (c .before .before .last-digits .ensures) (c .before .power .ensures)
+    ∙ hundredths-round awayFromZero (s .args .m * 100) (s .args .r) _ _ (s .pre .1) (c .before .before .last-digits .ensures) (c .before .power .ensures)
 
 pub nearest-hundredths-spec : {M : Type 1} → statement M
 nearest-hundredths-spec =
