@@ -4,8 +4,9 @@ The words are the names that the libraries' code and the definitions in crates/*
 constructors and fields, functions, structs, enums, their cases and fields, the clauses of a contract, the names that a module
 is imported by, and the parameters of functions and definitions that are no single letters. Words that differ only in case or in
 `_` and `-` count as one. A word stands in two places only where ONE has the meaning that it has at each, or where it names
-a function or a constant and the definition that the code is held to; a parameter is of one type wherever the code has it. None
-is a name that a contract or a definition imports from the toolchain's library, and no import gives a definition another name.
+a function or a constant and the definition that the code is held to; a parameter is of one type wherever the code has it. The
+numbers in WRITTEN_OUT alone have the word of another thing. None is a name that a contract or a definition imports from the
+toolchain's library, and no import gives a definition another name.
 """
 
 import collections
@@ -23,7 +24,7 @@ ONE = {
     "Refusal": "a ground for sending work back: the enum of them, and the number in a ground",
     "Outcome": "what a call's conditions fix: the type, and the definition that gives it",
     "Ground": "a line of the table of refusals: the record, and the definition that gives it",
-    "Answer": "what a call answers: the type, its values in a list of calls, the clause of a contract",
+    "Answer": "what a call answers: the type, its values in a list of calls, the clause of a contract, the parameter by which a sum's answer is handed on",
     "FigureAnswer": "a mill figure's answer: the enum, and what it says as an outcome",
     "LineAnswer": "a finished line's answer: the enum, and what it says as an outcome",
     "TableAnswer": "an add's, a merge's or a load's answer: the enum, and what it says as an outcome",
@@ -33,11 +34,11 @@ ONE = {
     "merge": "the call that merges two tables, and its entry in a list of calls",
     "save": "the call that saves a table, and its entry in a list of calls",
     "load": "the call that loads a saved table, and its entry in a list of calls",
-    "sum": "a section's sum: the call, its question, its field in a line, its entry in the bench book, a double or the answer that has it",
+    "sum": "a section's sum: the call, its question, its field in a line, its entry in the bench book, the double",
     "figure": "a section's mill figure: the call, its question, its field in a line, the case that carries it",
     "line": "a section's finished line: the call, its question, the case that carries it",
     "totals": "how many sections and rows a table has: the call, its question, the case that carries them, the numbers to be printed",
-    "side": "which side of the value that was rounded a number is on: the enum and its fields, Card 2's definition, the number written out and its clause",
+    "side": "which side of the value that was rounded a number is on: the enum and its fields, Card 2's definition",
     "write": "puts bytes into a lent buffer: a number's, or a patch file",
     "look_up": "the record of a section: the function, and the enum of what it finds",
     "address": "where a returned part stands",
@@ -63,8 +64,7 @@ ONE = {
     "RowCount": "the row count of a file, and the answer that has it",
     "columns_fit": "some row count fits both columns: the definition, the function, the example of it",
     "Row": "a row: the record, and an example of it",
-    "rows": "rows: as a list of each table, of two columns; written out, the number of them",
-    "sections": "the sections of a table: as a list; written out, the number of them",
+    "rows": "a list of rows: of each table, of two columns",
     "count": "a number of rows",
     "key": "a section number",
     "bits": "the 64 bits of a double",
@@ -97,6 +97,8 @@ ONE = {
     # wide numbers
     "limbs": "a number in limbs",
     "reduced": "every limb has 40 digits",
+    "low_limbs": "each limb but the last has 40 digits",
+    "limb3": "the bound of the last limb",
     "same": "the limbs stand for this number",
     "near": "nothing is nearer",
     # examples
@@ -106,9 +108,8 @@ ONE = {
     "exampleRows": "the rows of an example",
     "BenchFigure": "a figure of the bench book",
 }
-# parameters of two types
-TWO_TYPES = {"sum", "side"}
-ONE |= {f"limb{i}": "the bound of a limb" for i in range(4)}
+# numbers that exported calls write out, whose names the interface fixes: elsewhere each is the word for what the number stands for
+WRITTEN_OUT = {"rows", "sections", "side"}
 ONE |= {f"of-{call}": "what is said of this call's contract" for call in ("keys", "values", "read", "key-start", "value-start", "write", "report", "girth-read", "girth-write", "girth-report", "girth-sum", "girth-figure", "girth-line", "girth-totals", "save", "load", "girth-save", "girth-load")}
 
 NAME = r"[^\s:(){}.,;]+"
@@ -153,10 +154,10 @@ def folded(word):
 
 
 def functions(text):
-    """The functions of a file of code: name, parameters with their types, and contract."""
+    """The functions of a file of code: name, parameters with their types and whether they are written out, and contract."""
     for found in re.finditer(r"^(?:#\[no_mangle\]\s+)?(?:pub )?(?:extern \"C\" )?fn (\w+)\(([^)]*)\)(.*?)^\{", text, re.M | re.S):
-        named = re.findall(r"(\w\w+): (?:&(?:mut )?)?([^,\n]+)", found[2])
-        yield found[1], [(word, re.sub(r"^(?:[iu]\d+|usize)$", "a number", kind.strip())) for word, kind in named], found[3]
+        named = re.findall(r"(\w\w+): (&mut |&)?([^,\n]+)", found[2])
+        yield found[1], [(word, re.sub(r"^(?:[iu]\d+|usize)$", "a number", kind.strip()), way == "&mut ") for word, way, kind in named], found[3]
 
 
 def spec_parameters(text):
@@ -219,7 +220,7 @@ def main():
     places, types, taken, bad = collections.defaultdict(list), collections.defaultdict(set), set(), []
     specs = sorted(CRATES.glob("*/specs/**/*.antt"))
     codes = sorted(f for f in CRATES.glob("*/src/**/*.rt") if f.name != "main.rt")
-    parameters, definitions, values = set(), {}, {}
+    parameters, definitions, values, apart = set(), {}, {}, set()
     for f in specs:
         text, name = f.read_text(), str(f.relative_to(CRATES))
         for word in [*spec_words(text), *modules(text)]:
@@ -230,13 +231,19 @@ def main():
     for f in codes:
         text, name = f.read_text(), str(f.relative_to(CRATES))
         paired = set(tied(text, definitions, values))
-        for word in [*code_words(text), *clauses(text), *modules(text)]:
-            if word not in paired:
-                places[folded(word)].append((word, name))
-        for _, named, _ in functions(text):
-            for word, kind in named:
-                parameters.add(word)
-                types[word].add(kind)
+        words = [word for word in [*code_words(text), *modules(text)] if word not in paired]
+        for _, named, contract in functions(text):
+            out = {word for word, kind, written in named if written and kind == "a number" and word in WRITTEN_OUT and name.startswith("exports/")}
+            apart |= out
+            words += [word for word in clauses(contract) if word not in out]
+            for word, kind, _ in named:
+                if word not in out:
+                    parameters.add(word)
+                    types[word].add(kind)
+                    if word in WRITTEN_OUT and kind == "a number":
+                        bad.append(f"{word} in {name}: a number that no exported call writes out")
+        for word in words:
+            places[folded(word)].append((word, name))
     for f in specs + codes:
         text, name = f.read_text(), str(f.relative_to(CRATES))
         taken |= set(library(text))
@@ -245,12 +252,13 @@ def main():
     for word in parameters:
         if not any(name == "a parameter" for _, name in places[folded(word)]):
             places[folded(word)].append((word, "a parameter"))
-        if len(types[word]) > 1 and word not in TWO_TYPES:
+        if len(types[word]) > 1:
             bad.append(f"{word}: a parameter of the types {', '.join(sorted(types[word]))}")
     for word, where in sorted(places.items()):
         if len(where) > 1 and word not in one:
             bad.append(", ".join(f"{spelt} in {name}" for spelt, name in where) + ": which meaning?")
         bad += [f"{spelt} in {name}: it is the library's" for spelt, name in where if spelt in taken]
+    bad += [f"{word}: is not written out" for word in sorted(WRITTEN_OUT - apart)]
     bad += [f"{word}: stands in one place only" for word in sorted(ONE) if len(places[folded(word)]) < 2]
     for fault in bad:
         print(fault, file=sys.stderr)

@@ -1,4 +1,5 @@
--- The call that loads a saved table: what each of its outcomes says, and the table that it leaves.
+-- The call that loads a saved table: what each of its outcomes says, and the table that it leaves. The idea: each outcome follows from the conditions before it,
+-- and an accepted one gives every field of the file, since a right layout leaves the group count alone open.
 use Prim.Native.Nat.{ℕ, _*_, _≤_, _<_}
 use mathlib.Core.Path.{_≡_, sym, ap, _∙_}
 use mathlib.Core.Bool.{true, false}
@@ -11,7 +12,7 @@ use Rattle.lists.proofs.Booleans.{both-false}
 use Rattle.refusal.specs.Outcome.{accepted, refused, IsFirst}
 use Rattle.refusal.proofs.Outcomes.{accepted-not, accepted-value, first-held}
 use Rattle.output.proofs.Outputs.{left-refused, left-accepted}
-use Rattle.trailer.specs.Trailer.{endsIn}
+use Rattle.trailer.specs.Trailer.{longestFile, endsIn}
 use Rattle.record.specs.Sound.{sound}
 use Rattle.checkpoint.specs.Saved.{tableMark, savedLength, groupCount, recordDistance, zeroField, wrongLayout}
 use Rattle.checkpoint.specs.Calls.{loadGrounds, loadOutcome, loadLeaves}
@@ -35,41 +36,41 @@ layout-only f e =
 
 -- a file that is neither too long nor too short
 pub record FileLength (f : List ℕ) : Type 0 where
-  pub longest : length f ≤ 65536
+  pub longest : length f ≤ longestFile
   pub shortest : 16 ≤ length f
 
 module _ (f : List ℕ) (tableLen : ℕ) where
   -- each condition, where none before it holds
-  pub load-1 : 65536 < length f → loadOutcome f tableLen ≡ refused 1
+  pub load-1 : longestFile < length f → loadOutcome f tableLen ≡ refused 1
   unfolding loadOutcome loadGrounds
-  load-1 h = rw (lt-ltb 65536 (length f) h)
+  load-1 h = rw (lt-ltb longestFile (length f) h)
 
   pub load-2 : length f < 16 → loadOutcome f tableLen ≡ refused 2
   unfolding loadOutcome loadGrounds
-  load-2 h = rw (le-ltb 65536 (length f) (omega arith), lt-ltb (length f) 16 h)
+  load-2 h = rw (le-ltb longestFile (length f) (omega arith), lt-ltb (length f) 16 h)
 
   module _ (l : FileLength f) where
     pub load-3 : endsIn tableMark f ≡ false → loadOutcome f tableLen ≡ refused 3
     unfolding loadOutcome loadGrounds
-    load-3 m = rw (le-ltb 65536 (length f) (l .longest), le-ltb (length f) 16 (l .shortest), m)
+    load-3 m = rw (le-ltb longestFile (length f) (l .longest), le-ltb (length f) 16 (l .shortest), m)
 
     module _ (m : endsIn tableMark f ≡ true) where
       pub load-19 : wrongLayout f ≡ true → loadOutcome f tableLen ≡ refused 19
       unfolding loadOutcome loadGrounds
-      load-19 w = rw (le-ltb 65536 (length f) (l .longest), le-ltb (length f) 16 (l .shortest), m, w)
+      load-19 w = rw (le-ltb longestFile (length f) (l .longest), le-ltb (length f) 16 (l .shortest), m, w)
 
       module _ (w : wrongLayout f ≡ false) where
         pub load-16 : tableLen < 64 * groupCount f → loadOutcome f tableLen ≡ refused 16
         unfolding loadOutcome loadGrounds
-        load-16 h = rw (le-ltb 65536 (length f) (l .longest), le-ltb (length f) 16 (l .shortest), m, w, lt-ltb tableLen (64 * groupCount f) h)
+        load-16 h = rw (le-ltb longestFile (length f) (l .longest), le-ltb (length f) 16 (l .shortest), m, w, lt-ltb tableLen (64 * groupCount f) h)
 
         pub load-7 : 64 * groupCount f ≤ tableLen → sound f (groupCount f) ≡ false → loadOutcome f tableLen ≡ refused 7
         unfolding loadOutcome loadGrounds
-        load-7 h n = rw (le-ltb 65536 (length f) (l .longest), le-ltb (length f) 16 (l .shortest), m, w, le-ltb tableLen (64 * groupCount f) h, n)
+        load-7 h n = rw (le-ltb longestFile (length f) (l .longest), le-ltb (length f) 16 (l .shortest), m, w, le-ltb tableLen (64 * groupCount f) h, n)
 
         pub load-accepts : 64 * groupCount f ≤ tableLen → sound f (groupCount f) ≡ true → loadOutcome f tableLen ≡ accepted (groupCount f)
         unfolding loadOutcome loadGrounds
-        load-accepts h ok = rw (le-ltb 65536 (length f) (l .longest), le-ltb (length f) 16 (l .shortest), m, w, le-ltb tableLen (64 * groupCount f) h, ok)
+        load-accepts h ok = rw (le-ltb longestFile (length f) (l .longest), le-ltb (length f) 16 (l .shortest), m, w, le-ltb tableLen (64 * groupCount f) h, ok)
 
   -- the number given is that of the first condition that holds, in the card's order
   pub load-first : {n : ℕ} → loadOutcome f tableLen ≡ refused n → IsFirst n (loadGrounds f tableLen)
@@ -83,7 +84,7 @@ pub record AcceptedLoad (f : List ℕ) (tableLen g : ℕ) : Type 0 where
   pub distance-is : recordDistance f ≡ savedLength g
   pub zero-is : zeroField f ≡ 0
   pub mark-is : endsIn tableMark f ≡ true
-  pub longest : length f ≤ 65536
+  pub longest : length f ≤ longestFile
   pub room : 64 * g ≤ tableLen
   pub is-sound : sound f g ≡ true
 
@@ -99,7 +100,7 @@ load-only f tableLen {g} e =
       distance-is = y .1 ∙ ap savedLength c;
       zero-is = y .2;
       mark-is = not-false (endsIn tableMark f) (not-held 3);
-      longest = ltb-false 65536 (length f) (not-held 1);
+      longest = ltb-false longestFile (length f) (not-held 1);
       room = rw (sym c) (ltb-false tableLen (64 * groupCount f) (not-held 16));
       is-sound = rw (sym c) (not-false (sound f (groupCount f)) (not-held 7));
     }

@@ -1,4 +1,5 @@
--- What was saved is loaded with the same records, and what was loaded is saved as the same file.
+-- What was saved is loaded with the same records, and what was loaded is saved as the same file. The idea: the fields of a saved file are read back as they were
+-- written, so only the room is asked for; and an accepted file is the file of its own records (`accepted-is-saved`).
 use Prim.Native.Nat.{ℕ, _-_, _*_, _≤_}
 use mathlib.Core.Path.{_≡_, refl, sym, ap, _∙_}
 use mathlib.Core.Bool.{true, false}
@@ -11,7 +12,7 @@ use Rattle.codec.specs.Bytes.{number, bytes}
 use Rattle.codec.proofs.Laws.{AreBytes}
 use Rattle.refusal.specs.Outcome.{accepted, refused, outcome}
 use Rattle.output.specs.Output.{outputGround}
-use Rattle.trailer.specs.Trailer.{trailerField, trailerOf}
+use Rattle.trailer.specs.Trailer.{longestFile, trailerField, trailerOf}
 use Rattle.trailer.proofs.Laws.{Fields, fields-back, trailer-is}
 use Rattle.record.specs.Layout.{records, mostGroups}
 use Rattle.record.specs.Sound.{sound}
@@ -43,7 +44,7 @@ module _ (s : List ℕ) (g : ℕ) (ok : sound s g ≡ true) (few : g ≤ mostFil
   saved-outcome tableLen =
       let l = length-savedTable s g ok in
       rw (
-        le-ltb 65536 (length (savedTable s g)) (omega arith),
+        le-ltb longestFile (length (savedTable s g)) (omega arith),
         le-ltb (length (savedTable s g)) 16 (omega arith),
         saved-fields .mark-is,
         saved-layout,

@@ -1,4 +1,5 @@
--- The call that saves a table: what each of its outcomes says, and the file that it leaves.
+-- The call that saves a table: what each of its outcomes says, and the file that it leaves. The idea: an outcome says which conditions hold, and the file is the
+-- records and the trailer, put in place one after the other.
 use Prim.Native.Nat.{ℕ, _*_, _≤_, _<_}
 use mathlib.Core.Path.{_≡_, refl, sym, ap, _∙_}
 use mathlib.Core.Bool.{true, false}

@@ -4,7 +4,9 @@ use mathlib.Core.Path.{_≡_, refl, sym, ap, _∙_}
 use mathlib.Core.List.{List, [], _∷_, _++_, append-assoc}
 use native.Mathlib.Nat.{pow-suc, add-suc, suc-add, zero-add, add-zero, le-of-eq, le-refl, one-le-pow}
 use native.Mathlib.Omega.{arith}
-use lib.Dec.{leb, lit<}
+use lib.Dec.{T, ltb, leb, ltb→lt, lit<}
+use lib.Ieee.Fits.{and-l, and-r}
+use lib.Pow.{areBytes}
 use borrow.Author.Tests.{le-leb, leb-true}
 use mathlib.Core.Bool.{true}
 use lib.ListN.{length, getD, set, take, drop, length-drop, take-append-drop}
@@ -70,6 +72,12 @@ numberAt-bytes w x h = ap number (take-all w (bytes w x) (le-of-eq (length-bytes
 -- what a slice of bytes is known to hold
 abbrev pub AreBytes : List ℕ → Type 0
 AreBytes s = (i : ℕ) → getD s i 0 < 256
+
+-- what the library's test finds to be bytes are
+pub are-bytes : (s : List ℕ) → T (areBytes s) → AreBytes s
+are-bytes [] t i = lit< tt
+are-bytes (b ∷ s) t zero = ltb→lt b 256 (and-l (ltb b 256) (areBytes s) t)
+are-bytes (b ∷ s) t (suc i) = are-bytes s (and-r (ltb b 256) (areBytes s) t) i
 
 pub take-bytes : (n : ℕ) (s : List ℕ) → AreBytes s → AreBytes (take n s)
 take-bytes zero s h i = lit< tt

@@ -1,6 +1,6 @@
 // Little-endian numbers at a place of a byte slice.
 ghost use mathlib.Core.Path.{_≡_};
-ghost use Prim.Native.Nat.{_+_, _-_, _≤_, _<_, _^_};
+ghost use Prim.Native.Nat.{_+_, _-_, _≤_, _<_};
 ghost use mathlib.Core.List.{_++_};
 ghost use lib.ListN.{length, take, drop, replicate};
 ghost use lib.Seq.{sets};
@@ -27,8 +27,8 @@ pub fn u32_at(s: &[u8], at: usize) -> u32
     requires { ⌜ at + 4 ≤ length (now s) ⌝ }
     ensures { λ r. ⌜ r ≡ numberAt 4 (now (s .entry)) at ⌝ }
 {
-    let low = (s[at] as u32) + (s[at + 1] as u32) * 256;
-    low + (s[at + 2] as u32) * 65536 + (s[at + 3] as u32) * 16777216
+    let pair = (s[at] as u32) + (s[at + 1] as u32) * 256;
+    pair + (s[at + 2] as u32) * 65536 + (s[at + 3] as u32) * 16777216
 }
 
 pub fn u64_at(s: &[u8], at: usize) -> u64

@@ -3,9 +3,7 @@ use Prim.Native.Nat.{ℕ, _*_, _≤_}
 use mathlib.Core.Path.{_≡_, refl, sym, ap, ap₂, _∙_}
 use mathlib.Core.List.{List, _++_}
 use lib.IntN.{ℤ}
-use lib.Ieee.Bits.{is-true}
 use lib.ListN.{length, take, drop}
-use lib.Pow.{areBytes}
 use lib.Seq.{take-at, drop-at}
 use denote.Ref.{now}
 use Rattle.refusal.specs.Outcome.{accepted}
@@ -14,18 +12,18 @@ use Rattle.checkpoint.specs.Calls.{saveOutcome, saveLeaves, loadOutcome, loadLe
 use Rattle.checkpoint.proofs.Records.{length-records}
 use Rattle.checkpoint.proofs.Saving.{save-only}
 use Rattle.checkpoint.proofs.Reloading.{save-then-load, save-then-left, save-then-records, load-then-save, load-then-file}
-use Rattle.history.proofs.Tables.{are-bytes}
+use Rattle.codec.proofs.Laws.{are-bytes}
 use Rattle.exports.specs.Calls.{returnsCount}
 use Rattle.conformance.specs.Called.{countSaid}
 use Rattle.conformance.specs.Checkpoints.{Checkpoints}
-use Rattle.conformance.proofs.Steps.{counted, save-not-0, load-not-0}
+use Rattle.conformance.proofs.Steps.{count-back, save-not-0, load-not-0}
 
 -- the numbers returned say the outcomes
 save-said : (s : List ℕ) (g outLen : ℕ) {z : ℤ} → z ≡ returnsCount (saveOutcome s g outLen) → countSaid z ≡ saveOutcome s g outLen
-save-said s g outLen q = counted (saveOutcome s g outLen) (save-not-0 s g outLen) q
+save-said s g outLen q = count-back (saveOutcome s g outLen) (save-not-0 s g outLen) q
 
 load-said : (f : List ℕ) (tableLen : ℕ) {z : ℤ} → z ≡ returnsCount (loadOutcome f tableLen) → countSaid z ≡ loadOutcome f tableLen
-load-said f tableLen q = counted (loadOutcome f tableLen) (load-not-0 f tableLen) q
+load-said f tableLen q = count-back (loadOutcome f tableLen) (load-not-0 f tableLen) q
 
 -- over what is lent
 module _ (s : List ℕ) (g : ℕ) (out t : List ℕ) {n : ℕ} (e : saveOutcome s g (length out) ≡ accepted n) (room : 64 * g ≤ length t) where
@@ -64,7 +62,7 @@ checkpoints = record {
       let file = now (b .0) in
       let t = now (b .1 .0) in
       let out = now (a .1 .1 .0) in
-      let byte = are-bytes file (is-true (areBytes file) bs) in
+      let byte = are-bytes file bs in
       let o : loadOutcome file (length t) ≡ accepted g = sym (load-said file (length t) (m .0)) ∙ q in
       let s : now (a .0) ≡ loadLeaves file t = p ∙ m .1 in
       let left : now (e .1 .1 .0) ≡ file ++ drop (length file) out =

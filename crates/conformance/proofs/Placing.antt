@@ -1,4 +1,5 @@
--- The calls on a file say what their contracts say, the parts that the reader hands back stand where their columns start, and a file that is written is read with the same columns.
+-- The calls on a file say what their contracts say, the parts that the reader hands back stand where their columns start, and a file that is written is read with
+-- the same columns. The idea: a number that is returned gives the outcome back, and of an accepted outcome the laws of the file speak.
 use Prim.Native.Nat.{ℕ, _+_, _-_, _*_, _<_}
 use mathlib.Core.Path.{_≡_, refl, sym, ap, _∙_}
 use mathlib.Core.List.{List}
@@ -9,7 +10,7 @@ use denote.Ref.{now}
 use Rattle.refusal.specs.Outcome.{Outcome, accepted}
 use Rattle.refusal.proofs.Outcomes.{not-given}
 use Rattle.columns.specs.declared.Kind.the-variants.{Double}
-use Rattle.columns.specs.Columns.{columnRowCount}
+use Rattle.columns.specs.Columns.{width, columnRowCount}
 use Rattle.patch.specs.File.{readOutcome, keyColumn, valueColumn, column, columnStart, keyDistance, valueDistance, addressAfter}
 use Rattle.patch.specs.Serializer.{fileLength, writeGrounds, writeOutcome}
 use Rattle.patch.proofs.WriteOutcome.{write-then-read, write-then-keys, write-then-values, bytes-after}
@@ -18,7 +19,7 @@ use Rattle.conformance.specs.Called.{countSaid}
 use Rattle.conformance.specs.Exported.{Exported}
 use Rattle.conformance.specs.Files.{Files}
 use Rattle.conformance.specs.Parts.{Parts}
-use Rattle.conformance.proofs.Steps.{counted, read-not-0}
+use Rattle.conformance.proofs.Steps.{count-back, read-not-0}
 
 -- a column that starts past the front does not stand at the front's place
 not-in-front : (o : Outcome ℕ) (d : ℕ) (f : List ℕ) (p : ℕ × ℕ) → o ≡ accepted 0 → d < length f → addressAfter p (columnStart o d f) ≡ p → ⊥
@@ -38,7 +39,7 @@ parts = record {
 
 -- the number that the reader returns says its outcome
 read-said : (f : List ℕ) {z : ℤ} → z ≡ returnsCount (readOutcome Double f) → countSaid z ≡ readOutcome Double f
-read-said f q = counted (readOutcome Double f) (read-not-0 f) q
+read-said f q = count-back (readOutcome Double f) (read-not-0 f) q
 
 -- the column of an accepted file stands where it starts
 column-there : (cell n d : ℕ) (f : List ℕ) → readOutcome Double f ≡ accepted n → take (cell * n) (drop (columnStart (readOutcome Double f) d f) f) ≡ column (readOutcome Double f) cell d f
@@ -48,7 +49,7 @@ column-there cell n d f e = rw e
 -- and the number that the writer returns
 write-said : (ks vs : List ℕ) (outLen : ℕ) {z : ℤ} → z ≡ returnsCount (writeOutcome ks vs outLen) → countSaid z ≡ writeOutcome ks vs outLen
 unfolding writeOutcome writeGrounds
-write-said ks vs outLen q = counted (writeOutcome ks vs outLen) (not-given 0 (writeGrounds ks vs outLen) (fileLength Double (columnRowCount ks)) refl) q
+write-said ks vs outLen q = count-back (writeOutcome ks vs outLen) (not-given 0 (writeGrounds ks vs outLen) (fileLength Double (columnRowCount ks)) refl) q
 
 pub files : Files
 unfolding keyColumn valueColumn
@@ -61,7 +62,7 @@ files = record {
       let f = now (a .0) in
       let o = sym (read-said f (l .0)) ∙ q in (
         ap (λ (i : ℕ). take (4 * n) (drop i f)) (l .1 .0) ∙ column-there 4 n (keyDistance f) f o,
-        ap (λ (i : ℕ). take (8 * n) (drop i f)) (l .1 .1) ∙ column-there 8 n (valueDistance f) f o,
+        ap (λ (i : ℕ). take (width Double * n) (drop i f)) (l .1 .1) ∙ column-there (width Double) n (valueDistance f) f o,
       );
   of-write = λ κs a z e l. l;
   of-girth-write = λ κs a z e l. l;

@@ -32,7 +32,7 @@ use Rattle.history.proofs.Canonical.{added-canonical}
 use Rattle.history.proofs.Totals.{totals-canonical}
 use Rattle.conformance.specs.Called.{countSaid}
 use Rattle.conformance.specs.Reported.{rowsIn, addOf, Reported}
-use Rattle.conformance.proofs.Steps.{counted}
+use Rattle.conformance.proofs.Steps.{count-back}
 
 -- ---- what is written
 printed : (out w : List ℕ) {l : ℕ} → printOutcome out w ≡ accepted l → (length w ≡ l) × (take l (printLeaves out w) ≡ w)
@@ -41,7 +41,7 @@ printed out w {l} e =
     (n, left-front w out e n)
 
 print-said : (out w : List ℕ) {z : ℤ} → z ≡ returnsCount (printOutcome out w) → countSaid z ≡ printOutcome out w
-print-said out w q = counted (printOutcome out w) (not-given 0 (outputGround (length out) (length w) ∷ []) (length w) refl) q
+print-said out w q = count-back (printOutcome out w) (not-given 0 (outputGround (length out) (length w) ∷ []) (length w) refl) q
 
 -- ---- the sections of an add to the report's empty table
 sections-added : (ks vs : List ℕ) → addSections Double emptyTable 0 ks vs ≡ canonical (rowsOf Double ks vs)

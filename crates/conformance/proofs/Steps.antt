@@ -41,8 +41,8 @@ count-said (refused zero) e = never (cc)
 count-said (refused (suc n)) e = refl
 
 -- from a number z that a call returned for o
-pub counted : (o : Outcome ℕ) → isRefusal 0 o ≡ false → {z : ℤ} → z ≡ returnsCount o → countSaid z ≡ o
-counted o n q = ap countSaid q ∙ count-said o n
+pub count-back : (o : Outcome ℕ) → isRefusal 0 o ≡ false → {z : ℤ} → z ≡ returnsCount o → countSaid z ≡ o
+count-back o n q = ap countSaid q ∙ count-said o n
 
 -- from z and the values y that it wrote out, which are those of an accepted o
 given-out : {A : Type 0} (o : Outcome A) (y : A) {z : ℤ} → isRefusal 0 o ≡ false → ((x : A) → o ≡ accepted x → y ≡ x) → z ≡ returnsZero o → valuesSaid y z ≡ o
@@ -155,7 +155,7 @@ steps s c x s′ (by-add i κs a z e b p l) = (
   rw (p .0, p .1) (ap₂ (λ (o : Outcome ℕ) (b : List ℕ). setTable i (after o b (a .1 .0)) s) (sym (l .0)) (sym (l .1 .0))),
 )
 steps s c x s′ (by-girth-add i κs a z e b p l) =
-    let q = counted (addOutcome Double (now (a .0)) (a .1 .0) (now (a .1 .1 .0)) (now (a .1 .1 .1 .0)) (length (now (a .1 .1 .1 .1 .0)))) (add-not-0 _ _ _ _ _) (l .0) in (
+    let q = count-back (addOutcome Double (now (a .0)) (a .1 .0) (now (a .1 .1 .0)) (now (a .1 .1 .1 .0)) (length (now (a .1 .1 .1 .1 .0)))) (add-not-0 _ _ _ _ _) (l .0) in (
       rw (p .0, p .1) (ap groupsAre (sym q)),
       rw (p .0, p .1) (ap₂ (λ (o : Outcome ℕ) (b : List ℕ). setTable i (after o b (a .1 .0)) s) (sym q) (sym (l .1 .0))),
     )
@@ -164,7 +164,7 @@ steps s c x s′ (by-merge i j apart κs a z e p q l) = (
   rw (p .0, p .1, q .0, q .1) (ap₂ (λ (o : Outcome ℕ) (b : List ℕ). setTable i (after o b (a .1 .0)) s) (sym (l .0)) (sym (l .1))),
 )
 steps s c x s′ (by-girth-merge i j apart κs a z e p q l) =
-    let r = counted (mergeOutcome (now (a .0)) (a .1 .0) (now (a .1 .1 .0)) (a .1 .1 .1 .0)) (merge-not-0 _ _ _ _) (l .0) in (
+    let r = count-back (mergeOutcome (now (a .0)) (a .1 .0) (now (a .1 .1 .0)) (a .1 .1 .1 .0)) (merge-not-0 _ _ _ _) (l .0) in (
       rw (p .0, p .1, q .0, q .1) (ap groupsAre (sym r)),
       rw (p .0, p .1, q .0, q .1) (ap₂ (λ (o : Outcome ℕ) (b : List ℕ). setTable i (after o b (a .1 .0)) s) (sym r) (sym (l .1))),
     )
@@ -181,7 +181,7 @@ steps s c x s′ (by-save i κs a z e p l) = (
   rw (p .0, p .1) (ap (λ (files : List (List ℕ)). record { tables = s .tables; shelf = files }) (saved-on (now (a .0)) (a .1 .0) (now (a .1 .1 .0)) (s .shelf) (l .0) (l .1))),
 )
 steps s c x s′ (by-girth-save i κs a z e p l) =
-    let q = counted (saveOutcome (now (a .0)) (a .1 .0) (length (now (a .1 .1 .0)))) (save-not-0 _ _ _) (l .0) in (
+    let q = count-back (saveOutcome (now (a .0)) (a .1 .0) (length (now (a .1 .1 .0)))) (save-not-0 _ _ _) (l .0) in (
       rw (p .0, p .1) (ap lengthIs (sym q)),
       rw (p .0, p .1) (ap (λ (files : List (List ℕ)). record { tables = s .tables; shelf = files }) (saved-on (now (a .0)) (a .1 .0) (now (a .1 .1 .0)) (s .shelf) q (l .1))),
     )
@@ -190,7 +190,7 @@ steps s c x s′ (by-load i n κs a z e f p l) = (
   rw (f, p) (ap₂ (λ (o : Outcome ℕ) (b : List ℕ). setTable i (after o b (s .tables i .groups)) s) (sym (l .0)) (sym (l .1))),
 )
 steps s c x s′ (by-girth-load i n κs a z e f p l) =
-    let q = counted (loadOutcome (now (a .0)) (length (now (a .1 .0)))) (load-not-0 _ _) (l .0) in (
+    let q = count-back (loadOutcome (now (a .0)) (length (now (a .1 .0)))) (load-not-0 _ _) (l .0) in (
       rw (f, p) (ap groupsAre (sym q)),
       rw (f, p) (ap₂ (λ (o : Outcome ℕ) (b : List ℕ). setTable i (after o b (s .tables i .groups)) s) (sym q) (sym (l .1))),
     )

@@ -1,1 +1,1 @@
-// What callers learn from the public contracts: five of them are the steps of a way of working, two fix a part's place, and none asks anything. Claims and their proofs, and no code.
+// What callers learn from the public contracts: the calls on tables are the steps of a way of working, the calls on files fix what is read and written, and none asks anything. Claims and their proofs, and no code.

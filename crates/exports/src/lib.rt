@@ -1,13 +1,9 @@
 // The public calls for other languages. A call returns a number of at least 0, or minus the refusal's number; further numbers go
 // out through references, and are 0 when the call is refused.
 ghost use mathlib.Core.Path.{_≡_};
-ghost use mathlib.Core.Bool.{not};
 ghost use Prim.Native.Nat.{ℕ, _≤_, _<_, _^_};
-ghost use lib.Dec.{T};
 ghost use lib.IntN.{pos, negℤ};
 ghost use lib.ListN.{length};
-ghost use lib.Ieee.{binary64};
-ghost use lib.Ieee.Scale.{finite};
 ghost use Rattle.refusal.specs.Number.{numberOf};
 ghost use Rattle.refusal.specs.Outcome.{accepted};
 ghost use Rattle.output.specs.Output.{outputAnswer};

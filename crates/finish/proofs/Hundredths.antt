@@ -19,7 +19,7 @@ use Rattle.level.proofs.Signs.{natAbs-signed}
 use Rattle.limbs.specs.Nearest.{rounded, nearestBy}
 use Rattle.integers.proofs.Naturals.{pow-sum, order-lt, order-scale}
 use Rattle.limbs.proofs.Nearest.{nearest-at, nearest-floor, nearest-same}
-use Rattle.finish.specs.Figure.{beyond}
+use Rattle.finish.specs.Figure.{largestFigure, beyond}
 
 -- ---- the rounded size
 
@@ -49,7 +49,7 @@ module _ (tie : ℕ → Bool) where
       products m x w = omega arith
 
   -- a size of 2^52 or more, in units of 2^-1074, is beyond
-  pub far : (n : ℕ) → 2 ^ 1126 ≤ n → 2147483647 < nearestBy tie (n * 100) (2 ^ 1074)
+  pub far : (n : ℕ) → 2 ^ 1126 ≤ n → largestFigure < nearestBy tie (n * 100) (2 ^ 1074)
   far n h = le-trans (le-div-iff-mul-le (pow-pos 1074) .1 (le-trans (lit≤ tt) (mul-le-mul-right 100 h))) (nearest-floor tie (n * 100) (2 ^ 1074))
 
 -- ---- in range or beyond
@@ -58,21 +58,21 @@ module _ (tie : ℕ → Bool) where
 abbrev rangedFigure : ℤ → Outcome ℤ
 rangedFigure z = cond (beyond z) (refused 15) (accepted z)
 
-pub figure-beyond : (s : Bool) (n : ℕ) → 2147483647 < n → refused 15 ≡ rangedFigure (signed s n)
+pub figure-beyond : (s : Bool) (n : ℕ) → largestFigure < n → refused 15 ≡ rangedFigure (signed s n)
 unfolding beyond
-figure-beyond s n h = rw (natAbs-signed s n, lt-ltb 2147483647 n h)
+figure-beyond s n h = rw (natAbs-signed s n, lt-ltb largestFigure n h)
 
-figure-in-range : (s : Bool) (n : ℕ) → n ≤ 2147483647 → accepted (signed s n) ≡ rangedFigure (signed s n)
+figure-in-range : (s : Bool) (n : ℕ) → n ≤ largestFigure → accepted (signed s n) ≡ rangedFigure (signed s n)
 unfolding beyond
-figure-in-range s n h = rw (natAbs-signed s n, le-ltb 2147483647 n h)
+figure-in-range s n h = rw (natAbs-signed s n, le-ltb largestFigure n h)
 
 -- ---- a figure as an i32
 
-pub i32-lt : (n : ℕ) → n ≤ 2147483647 → n < 2 ^ 31
+pub i32-lt : (n : ℕ) → n ≤ largestFigure → n < 2 ^ 31
 i32-lt n h = omega arith
 
-pub figure-plus : (s : Bool) (n : ℕ) → n ≤ 2147483647 → s ≡ false → accepted (toZ w32 n) ≡ rangedFigure (signed s n)
+pub figure-plus : (s : Bool) (n : ℕ) → n ≤ largestFigure → s ≡ false → accepted (toZ w32 n) ≡ rangedFigure (signed s n)
 figure-plus s n h e = ap accepted (toZ-pos w32 n (i32-lt n h) ∙ ap (λ (t : Bool). signed t n) (sym e)) ∙ figure-in-range s n h
 
-pub figure-minus : (s : Bool) (n : ℕ) → n ≤ 2147483647 → s ≡ true → accepted (toZ w32 (ofZ w32 (pos 0 -ℤ toZ w32 n))) ≡ rangedFigure (signed s n)
+pub figure-minus : (s : Bool) (n : ℕ) → n ≤ largestFigure → s ≡ true → accepted (toZ w32 (ofZ w32 (pos 0 -ℤ toZ w32 n))) ≡ rangedFigure (signed s n)
 figure-minus s n h e = ap accepted (minus-back w32 n (i32-lt n h) ∙ ap (λ (t : Bool). signed t n) (sym e)) ∙ figure-in-range s n h

@@ -1,36 +1,30 @@
 -- Negating a sum negates its figure, refusals included. The idea: what a mill figure is in plain words fixes it, and holds of both numbers negated.
 use mathlib.Core.Path.{_≡_, refl, sym, ap, _∙_, subst}
-use mathlib.Core.Bool.{Bool, true, false, not, cond}
+use mathlib.Core.Bool.{Bool, true, false, cond}
 use mathlib.Core.List.{List}
 use mathlib.Core.Option.{Option, none, some}
 use Prim.Native.Nat.{ℕ, _*_, _^_}
 use native.Mathlib.Nat.{lt-irrefl, lt-trans, le-antisymm}
 use lib.Dec.{T}
-use lib.IntN.{ℤ, pos, negℤ, negℤ-negℤ, natAbs, _*ℤ_, ℤ-discrete}
-use lib.Signed.{nonNeg}
+use lib.IntN.{ℤ, pos, negℤ, _*ℤ_, ℤ-discrete}
 use lib.Ieee.{Float, nan, inf, fin, neg, binary64, up, down, fits}
-use lib.Ieee.Fits.{round-fits}
 use lib.Ieee.Scale.{finite}
 use Rattle.integers.proofs.Laws.{natAbs-neg, negℤ-*ℤ}
 use Rattle.refusal.specs.Outcome.{Outcome, accepted, refused}
 use Rattle.refusal.proofs.Outcomes.{accepted≢refused}
-use Rattle.level.specs.Double.{signed}
+use Rattle.level.proofs.Descent.{neg-signed}
 use Rattle.record.specs.Sound.{sound}
 use Rattle.record.specs.Section.{Section, kept, sections, find}
 use Rattle.limbs.specs.Nearest.{nearestBy}
-use Rattle.finish.specs.Sum.{nearestDouble, tooLarge}
+use Rattle.finish.specs.Sum.{tooLarge}
 use Rattle.finish.specs.Side.{doubleValue}
 use Rattle.finish.specs.Figure.{awayFromZero, NearestAway, unitsApart, millFigure, beyond}
 use Rattle.finish.specs.Finish.{RoundedSum, doubleFor, sumFor, figureFor, lineFor, sumOf, figureOf, lineOf, sumOutcome, figureOutcome, lineOutcome}
 use Rattle.finish.specs.Negated.{negatedOutcome, sumValue, lineFigure}
 use Rattle.finish.specs.Steps.{figureBy}
-use Rattle.finish.proofs.Sums.{double-finite}
+use Rattle.finish.proofs.Sums.{double-fits, double-finite}
 use Rattle.finish.proofs.Halves.{nearest-negated, nearest-figure}
 use Rattle.finish.proofs.Outcomes.{figure-by}
-
-signed-not : (s : Bool) (n : ℕ) → signed (not s) n ≡ negℤ (signed s n)
-signed-not true n = sym (negℤ-negℤ (pos n))
-signed-not false n = refl
 
 -- ---- of a double
 
@@ -39,7 +33,7 @@ pub figure-negated : (x : Float) → millFigure (neg x) ≡ negℤ (millFigure x
 unfolding millFigure neg
 figure-negated nan = refl
 figure-negated (inf s) = refl
-figure-negated (fin s m e) = signed-not s (nearestBy awayFromZero (m * up e * 100) (down e))
+figure-negated (fin s m e) = sym (neg-signed s (nearestBy awayFromZero (m * up e * 100) (down e)))
 
 -- the plain words fix the number
 pub nearest-unique : (u : ℕ) (v y z : ℤ) → NearestAway u v y → NearestAway u v z → y ≡ z
@@ -85,10 +79,6 @@ figure-by-opposite (accepted x) (accepted y) z w f g e =
 figure-by-opposite (accepted x) (refused n) z w f g e = absurd (accepted≢refused e)
 figure-by-opposite (refused m) (accepted y) z w f g e = absurd (accepted≢refused (sym e))
 figure-by-opposite (refused m) (refused n) z w f g e = g ∙ e ∙ ap negatedOutcome (sym f)
-
-double-fits : (k : ℤ) → T (fits binary64 (nearestDouble k))
-unfolding nearestDouble
-double-fits k = round-fits binary64 (not (nonNeg k)) (natAbs k) (2 ^ 1074)
 
 section-figure : (o : Option Section) → GivesFigure (sumOf o) (figureOf o)
 section-figure none = refl

@@ -4,13 +4,11 @@ use mathlib.Core.Path.{_≡_, refl, sym, ap, _∙_, subst}
 use mathlib.Core.Bool.{Bool, true, false, not, cond}
 use mathlib.Core.List.{List, [], _∷_}
 use mathlib.Core.Option.{Option, none, some}
-use Prim.Native.Nat.{ℕ, _^_}
+use Prim.Native.Nat.{ℕ}
 use lib.Dec.{T, eqb}
-use lib.IntN.{ℤ, natAbs}
-use lib.Signed.{nonNeg}
+use lib.IntN.{ℤ}
 use lib.Ieee.{binary64, ofBits, toBits}
 use lib.Ieee.Bits.{ofBits-toBits}
-use lib.Ieee.Fits.{round-fits}
 use lib.Ieee.Scale.{finite}
 use Rattle.lists.proofs.Booleans.{never}
 use Rattle.refusal.specs.Outcome.{Outcome, accepted, refused, Ground, ground, outcome, condition, IsLowest, risingFrom, isRefusal, isGround}
@@ -29,7 +27,7 @@ use Rattle.finish.specs.declared.Lookup.{Lookup}
 use Rattle.finish.specs.declared.Lookup.the-variants.{Found, Missing, Unsound}
 use Rattle.finish.specs.declared.SectionSum.{SectionSum}
 use Rattle.finish.specs.declared.SectionSum.the-variants.{Finite, Absent, TooLarge, NotSound}
-use Rattle.finish.proofs.Sums.{double-finite}
+use Rattle.finish.proofs.Sums.{double-fits, double-finite}
 
 -- ---- by whether the kept value is too large; where it is not, its sum is finite
 
@@ -147,8 +145,7 @@ finite-line l s g k e = let t = section-given figureGrounds lineFor s g k l e in
 
 -- the double nearest to k units is read back from its bits
 pub double-back : (k : ℤ) → ofBits binary64 (toBits binary64 (nearestDouble k)) ≡ nearestDouble k
-unfolding nearestDouble
-double-back k = ofBits-toBits binary64 (nearestDouble k) (round-fits binary64 (not (nonNeg k)) (natAbs k) (2 ^ 1074))
+double-back k = ofBits-toBits binary64 (nearestDouble k) (double-fits k)
 
 -- ---- the line of a figure
 

@@ -13,8 +13,7 @@ use lib.Signed.{ltZ, ltZ-yes, _<ℤ_, nonNeg}
 use lib.Ieee.{Float, binary64, size, toBits}
 use lib.Ieee.Digits.{size-le}
 use Rattle.integers.proofs.Naturals.{le-or-lt}
-use Rattle.integers.proofs.Laws.{apart-none}
-use Rattle.integers.proofs.Diff.{ints, byParts₂}
+use Rattle.integers.proofs.Laws.{apart-none, apart-zero}
 use Rattle.level.specs.Double.{exponentField, negative, finiteBits, magnitude, signed, value}
 use Rattle.level.proofs.Signs.{natAbs-signed}
 use Rattle.level.proofs.Double.{significand-lt}
@@ -80,9 +79,6 @@ finite-small c f =
     let e : exponentField c - 1 ≤ 2045 = omega arith in
     lt-of-le-of-lt (mul-le-mul (le-of-suc-le-suc (significand-lt c)) (pow-mono e)) (lit< tt)
 
-no-distance : (x y : ℤ) → natAbs (x -ℤ y) ≡ 0 → x ≡ y
-no-distance = byParts₂ _ (λ a b c d. simp ints (omega arith))
-
 -- a kept value that is a double's
 pub exact-side : (k : ℤ) (c : ℕ) → finiteBits c ≡ true → value c ≡ k → side (nearestDouble k) k ≡ Equal
 unfolding side tooLarge
@@ -91,7 +87,7 @@ exact-side k c f e =
     let t : tooLarge k ≡ false = lt-leb limit (natAbs k) (lt-of-le-of-lt (le-of-eq size-is) (finite-small c f)) in
     let n : natAbs (k -ℤ doubleValue (nearestDouble k)) ≤ natAbs (k -ℤ value c) = nearest-double k t .near c f in
     let z : natAbs (k -ℤ value c) ≡ 0 = apart-none k (value c) (sym e) in
-    says-side Equal (doubleValue (nearestDouble k)) k (sym (no-distance k (doubleValue (nearestDouble k)) (omega arith)))
+    says-side Equal (doubleValue (nearestDouble k)) k (sym (apart-zero k (doubleValue (nearestDouble k)) (omega arith)))
 
 -- a kept value that drops no digit
 whole-side : (k : ℤ) → tooLarge k ≡ false → droppedDigits (natAbs k) ≡ 0 → side (nearestDouble k) k ≡ Equal

@@ -10,7 +10,8 @@ use lib.Dec.{T}
 use lib.Arith.{le→nltb}
 use lib.Signed.{nonNeg}
 use lib.IntN.{ℤ, pos, natAbs}
-use lib.Ieee.{inf, binary64, ofBits, nanBits, size, round}
+use lib.Ieee.{inf, binary64, ofBits, nanBits, size, round, fits}
+use lib.Ieee.Fits.{round-fits}
 use lib.Ieee.Bits.{nanBits-above}
 use lib.Ieee.Scale.{finite}
 use Rattle.finish.specs.Sum.{limit, nearestDouble, tooLarge}
@@ -90,7 +91,12 @@ sum-of-zero k e f = sym (ap₂ sumOfSize e f ∙ bits-of-zero) ∙ sum-of-kept k
 pub zero-sum : keptSum (pos 0) ≡ Finite (ofBits binary64 0) Equal
 zero-sum = sym (sum-of-zero (pos 0) refl refl)
 
--- the sum of a kept value that is not too large is a finite float
+-- the nearest double fits the format
+pub double-fits : (k : ℤ) → T (fits binary64 (nearestDouble k))
+unfolding nearestDouble
+double-fits k = round-fits binary64 (not (nonNeg k)) (natAbs k) (2 ^ 1074)
+
+-- and is finite where the kept value is not too large
 pub double-finite : (k : ℤ) → tooLarge k ≡ false → T (finite (nearestDouble k))
 unfolding tooLarge nearestDouble
 double-finite k e = limit-number (not (nonNeg k)) (natAbs k) (leb-false limit (natAbs k) e)

@@ -1,5 +1,5 @@
--- The size and the sign of the kept value, from the raised totals. The idea: a total is its raised total less 2^72, so the three totals put together are
--- the raised ones put together less the raises put together, and that distance with its sign is the kept value, 80 digits up.
+-- The size and the sign of the kept value, from the biased totals. The idea: a total is its biased total less 2^72, so the three totals put together are
+-- the biased ones put together less the biases put together, and that distance with its sign is the kept value, 80 digits up.
 use mathlib.Core.Path.{_≡_, refl, sym, ap, ap₂, _∙_}
 use mathlib.Core.Bool.{Bool, true, false, not}
 use Prim.Native.Nat.{ℕ, zero, suc, _+_, _-_, _*_, _/_, _%_, _^_, _≤_, _<_}
@@ -27,7 +27,7 @@ use Rattle.record.specs.Sound.{soundRecord}
 use Rattle.record.specs.Section.{kept, meaning}
 use Rattle.record.proofs.Parts.{empty-total, sound-record-parts, total-range}
 use Rattle.limbs.specs.Limbs.{SignedDifference}
-use Rattle.finish.specs.Raised.{carryRaise, totalRaise, raisedCarry, raisedTotal}
+use Rattle.finish.specs.Biased.{carryBias, totalBias, biasedCarry, biasedTotal}
 
 -- ---- the kept value, 80 digits up
 
@@ -52,32 +52,32 @@ kept-up t x y z h k =
     weighed (unit t) (unit (t - 1)) (unit (t - 2)) x y z
     (level-down t y h) (level-down t z (λ l. k (omega arith))) (rw lower at (level-down (t - 1) z (λ l. k (omega arith))))
 
--- ---- a total is its raised total less 2^72
+-- ---- a total is its biased total less 2^72
 
-carry-is : (c : ℤ) → natAbs c < carryRaise → c ≡ raisedCarry c ⊝ carryRaise
+carry-is : (c : ℤ) → natAbs c < carryBias → c ≡ biasedCarry c ⊝ carryBias
 carry-is = byParts _ (λ a b. simp ints (omega arith))
 
-pub raised-carry-fits : (c : ℤ) → natAbs c < carryRaise → T (nonNeg (c +ℤ pos (carryRaise))) × (raisedCarry c < 2 ^ 23)
-raised-carry-fits c h = (nonneg c h, small c h)
+pub biased-carry-fits : (c : ℤ) → natAbs c < carryBias → T (nonNeg (c +ℤ pos (carryBias))) × (biasedCarry c < 2 ^ 23)
+biased-carry-fits c h = (nonneg c h, small c h)
   where
-    nonneg : (c : ℤ) → natAbs c < carryRaise → T (nonNeg (c +ℤ pos (carryRaise)))
+    nonneg : (c : ℤ) → natAbs c < carryBias → T (nonNeg (c +ℤ pos (carryBias)))
     nonneg (pos n) h = tt
-    nonneg (negsuc n) h = rw (le-ltb (carryRaise) (suc n) (omega arith)) tt
+    nonneg (negsuc n) h = rw (le-ltb (carryBias) (suc n) (omega arith)) tt
 
-    small : (c : ℤ) → natAbs c < carryRaise → raisedCarry c < 2 ^ 23
+    small : (c : ℤ) → natAbs c < carryBias → biasedCarry c < 2 ^ 23
     small = byParts _ (λ a b. simp ints (omega arith))
 
 -- read off the bits of the sum
-pub carry-read : (c r : ℤ) → natAbs c < carryRaise → r ≡ toZ w64 (ofZ w64 c) +ℤ pos (carryRaise) → toZ w64 (ofZ w64 r) ≡ c +ℤ pos (carryRaise)
+pub carry-read : (c r : ℤ) → natAbs c < carryBias → r ≡ toZ w64 (ofZ w64 c) +ℤ pos (carryBias) → toZ w64 (ofZ w64 r) ≡ c +ℤ pos (carryBias)
 carry-read c r h e =
-    let f : r ≡ c +ℤ pos (carryRaise) = e ∙ ap (λ (z : ℤ). z +ℤ pos (carryRaise)) (bits-back w64 c (omega arith)) in
-    ap (λ (z : ℤ). toZ w64 (ofZ w64 z)) f ∙ bits-back w64 (c +ℤ pos (carryRaise)) (lt-of-lt-of-le (raised-carry-fits c h .1) (lit≤ tt))
+    let f : r ≡ c +ℤ pos (carryBias) = e ∙ ap (λ (z : ℤ). z +ℤ pos (carryBias)) (bits-back w64 c (omega arith)) in
+    ap (λ (z : ℤ). toZ w64 (ofZ w64 z)) f ∙ bits-back w64 (c +ℤ pos (carryBias)) (lt-of-lt-of-le (biased-carry-fits c h .1) (lit≤ tt))
 
-total-of : (n s : ℕ) → (n ⊝ carryRaise) *ℤ pos (carryBase) +ℤ pos s ≡ (s + carryBase * n) ⊝ totalRaise
+total-of : (n s : ℕ) → (n ⊝ carryBias) *ℤ pos (carryBase) +ℤ pos s ≡ (s + carryBase * n) ⊝ totalBias
 total-of n s = simp ints (omega arith)
 
-total-is : (h : SplitTotal) → InRange h → totalOf h ≡ raisedTotal h ⊝ totalRaise
-total-is h r = ap (λ (c : ℤ). c *ℤ pos (carryBase) +ℤ pos (h .residue)) (carry-is (h .carry) (r .1)) ∙ total-of (raisedCarry (h .carry)) (h .residue)
+total-is : (h : SplitTotal) → InRange h → totalOf h ≡ biasedTotal h ⊝ totalBias
+total-is h r = ap (λ (c : ℤ). c *ℤ pos (carryBase) +ℤ pos (h .residue)) (carry-is (h .carry) (r .1)) ∙ total-of (biasedCarry (h .carry)) (h .residue)
 
 stacked-is : (a b x y z : ℕ) → (z ⊝ b) +ℤ pos a *ℤ (y ⊝ b) +ℤ pos (a * a) *ℤ (x ⊝ b) ≡ (z + a * y + a * a * x) ⊝ (b + a * b + a * a * b)
 stacked-is a b x y z = simp ints (omega arith)
@@ -99,9 +99,9 @@ difference-some : (s : Bool) (v p q : ℕ) → SignedDifference s v p q → s �
 difference-some true v p q e h = e .1
 difference-some false v p q e h = never cc
 
--- the size and the sign of a sound record's kept value: P holds the raised totals, Q what they were raised by, and v is their distance
+-- the size and the sign of a sound record's kept value: P holds the biased totals, Q their biases, and v is their distance
 pub kept-size : (r : Record) (v P Q : ℕ) (s : Bool) → r .count < 2 ^ 32 → T (soundRecord r)
-    → P ≡ raisedTotal (r .low) + 2 ^ 40 * raisedTotal (r .middle) + 2 ^ 80 * raisedTotal (r .high) → Q ≡ totalRaise + 2 ^ 40 * totalRaise + 2 ^ 80 * totalRaise → SignedDifference s v P Q
+    → P ≡ biasedTotal (r .low) + 2 ^ 40 * biasedTotal (r .middle) + 2 ^ 80 * biasedTotal (r .high) → Q ≡ totalBias + 2 ^ 40 * totalBias + 2 ^ 80 * totalBias → SignedDifference s v P Q
     → (natAbs (kept (meaning r)) * 2 ^ 80 ≡ v * 2 ^ (40 * r .top)) × (not (nonNeg (kept (meaning r))) ≡ s)
 unfolding kept
 kept-size r v P Q s l h p q d =
@@ -111,7 +111,7 @@ kept-size r v P Q s l h p q d =
     let z = r .low in
     let whole : stacked (totalOf x) (totalOf y) (totalOf z) ≡ signed s v =
     rw (total-is x (total-range (r .count) x (g .high) l), total-is y (total-range (r .count) y (g .middle) l), total-is z (total-range (r .count) z (g .low) l))
-    (stacked-is (2 ^ 40) totalRaise (raisedTotal x) (raisedTotal y) (raisedTotal z) ∙ ap₂ _⊝_ (sym p) (sym q) ∙ difference-is s v P Q d) in
+    (stacked-is (2 ^ 40) totalBias (biasedTotal x) (biasedTotal y) (biasedTotal z) ∙ ap₂ _⊝_ (sym p) (sym q) ∙ difference-is s v P Q d) in
     let up : kept (meaning r) *ℤ pos (2 ^ 80) ≡ signed s (v * unit (r .top)) =
     kept-up (r .top) (totalOf x) (totalOf y) (totalOf z) (λ o. empty-total y (g .no-middle o)) (λ o. empty-total z (g .no-low o))
     ∙ ap (λ (m : ℤ). m *ℤ pos (unit (r .top))) whole ∙ signed-mul s v (unit (r .top)) in (

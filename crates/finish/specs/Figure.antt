@@ -20,9 +20,13 @@ millFigure nan = pos 0
 millFigure (inf s) = pos 0
 millFigure (fin s m e) = signed s (nearestBy awayFromZero (m * up e * 100) (down e))
 
--- document 01's condition 15: a figure beyond 2,147,483,647 in size
+-- the largest size of a figure
+abbrev pub largestFigure : ℕ
+largestFigure = 2147483647
+
+-- document 01's condition 15: a figure beyond that in size
 unfoldable pub beyond : ℤ → Bool
-beyond z = ltb 2147483647 (natAbs z)
+beyond z = ltb largestFigure (natAbs z)
 
 -- how far z units u are from v
 abbrev pub unitsApart : ℕ → ℤ → ℤ → ℕ

@@ -5,6 +5,6 @@ pub mod Figure
 pub mod Finish
 pub mod Negated
 pub mod Answer
-pub mod Raised
+pub mod Biased
 pub mod Steps
 pub mod Cases

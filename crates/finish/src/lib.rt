@@ -22,7 +22,7 @@ ghost use Rattle.finish.specs.Finish.{figureOf, lineOf, sumOutcome, figu
 ghost use Rattle.finish.specs.Answer.{sumAnswer, figureAnswer, lineAnswer};
 ghost use Rattle.finish.specs.Side.{oppositeSide};
 ghost use Rattle.finish.specs.Steps.{LookedUp, keptSum, sumOfBits, FiniteSum, figureBy, lineBy};
-ghost use Rattle.finish.specs.Raised.{carryRaise, totalRaise, raisedCarry, raisedTotal, Stacked};
+ghost use Rattle.finish.specs.Biased.{carryBias, totalBias, biasedCarry, biasedTotal, Stacked};
 
 // A section's sum: a finite double with its side of the kept value, absent, or too large; or the table is not sound.
 pub enum SectionSum {
@@ -53,28 +53,28 @@ pub enum LineAnswer {
     Refused(Refusal),
 }
 
-// The carry raised by 2^22, and so a total by 2^72: none is negative then.
-fn raised_carry(c: i64) -> u64
-    requires { ⌜ natAbs c < carryRaise ⌝ }
-    ensures { λ r. ⌜ (r ≡ raisedCarry c) × (r < 2 ^ 23) ⌝ }
+// The carry with a bias of 2^22, which gives a total one of 2^72: none is negative then.
+fn biased_carry(c: i64) -> u64
+    requires { ⌜ natAbs c < carryBias ⌝ }
+    ensures { λ r. ⌜ (r ≡ biasedCarry c) × (r < 2 ^ 23) ⌝ }
 {
     level::plus(c, 1 << 22) as u64
 }
 
-// What of a raised total stands above its 40 low digits, of which a carry has 1,024 times 2^40.
+// What of a biased total stands above its 40 low digits, of which a carry has 1,024 times 2^40.
 fn high_digits(h: SplitTotal) -> u64
     requires { ⌜ InRange h ⌝ }
-    ensures { λ r. ⌜ (r < 2 ^ 34) × (h .residue % 2 ^ 40 + 2 ^ 40 * r ≡ raisedTotal h) ⌝ }
+    ensures { λ r. ⌜ (r < 2 ^ 34) × (h .residue % 2 ^ 40 + 2 ^ 40 * r ≡ biasedTotal h) ⌝ }
 {
-    (h.residue >> 40) + raised_carry(h.carry) * 1024
+    (h.residue >> 40) + biased_carry(h.carry) * 1024
 }
 
-// The three raised totals in limbs, each one limb above the next.
-fn raised_limbs(high: SplitTotal, middle: SplitTotal, low: SplitTotal) -> [u64; 4]
+// The three biased totals in limbs, each one limb above the next.
+fn biased_limbs(high: SplitTotal, middle: SplitTotal, low: SplitTotal) -> [u64; 4]
     requires { ⌜ InRange high ⌝ }
     requires { ⌜ InRange middle ⌝ }
     requires { ⌜ InRange low ⌝ }
-    ensures { λ r. ⌜ Stacked (raisedTotal high) (raisedTotal middle) (raisedTotal low) r ⌝ }
+    ensures { λ r. ⌜ Stacked (biasedTotal high) (biasedTotal middle) (biasedTotal low) r ⌝ }
 {
     limbs::propagate([
         low.residue % limbs::LIMB,
@@ -84,9 +84,9 @@ fn raised_limbs(high: SplitTotal, middle: SplitTotal, low: SplitTotal) -> [u64; 
     ])
 }
 
-// What the totals were raised by, 2^72 each.
-fn raise() -> [u64; 4]
-    ensures { λ r. ⌜ Stacked totalRaise totalRaise totalRaise r ⌝ }
+// The three totals' biases in limbs, 2^72 each.
+fn bias_limbs() -> [u64; 4]
+    ensures { λ r. ⌜ Stacked totalBias totalBias totalBias r ⌝ }
 {
     [0, 1 << 32, 1 << 32, 1 << 32]
 }
@@ -128,7 +128,7 @@ pub fn record_sum(r: Record) -> SectionSum
     requires { ⌜ T (soundRecord r) ⌝ }
     ensures { λ x. ⌜ x ≡ keptSum (kept (meaning r)) ⌝ }
 {
-    let d = limbs::signed_difference(raised_limbs(r.high, r.middle, r.low), raise());
+    let d = limbs::signed_difference(biased_limbs(r.high, r.middle, r.low), bias_limbs());
     let size = d.limbs;
     if limbs::is_zero(size) {
         return SectionSum::Finite(0.0, Side::Equal);
@@ -158,11 +158,14 @@ fn digits_below_one(exponent: u64) -> u64
     if exponent == 0 { 1074 } else { 1075 - exponent }
 }
 
+// The largest size of a figure.
+const LARGEST_FIGURE: u64 = 2147483647;
+
 // The figure of a sign and a size, if it is in range.
 fn figure_of_size(n: u64, negative: bool) -> FigureAnswer
     ensures { λ r. ⌜ figureAnswer r ≡ cond (beyond (signed negative n)) (refused 15) (accepted (signed negative n)) ⌝ }
 {
-    if n > 2147483647 {
+    if n > LARGEST_FIGURE {
         return FigureAnswer::Refused(Refusal::FigureTooLarge);
     }
     if negative {
@@ -189,11 +192,11 @@ fn mill_figure(sum: f64) -> FigureAnswer
 }
 
 // The mill figure of a sum.
-fn figure_by(sum: SectionSum) -> FigureAnswer
-    requires { ⌜ FiniteSum sum ⌝ }
-    ensures { λ r. ⌜ figureAnswer r ≡ figureBy (sumAnswer sum) ⌝ }
+fn figure_by(answer: SectionSum) -> FigureAnswer
+    requires { ⌜ FiniteSum answer ⌝ }
+    ensures { λ r. ⌜ figureAnswer r ≡ figureBy (sumAnswer answer) ⌝ }
 {
-    match sum {
+    match answer {
         SectionSum::Finite(x, _) => mill_figure(x),
         SectionSum::Absent => FigureAnswer::Refused(Refusal::SectionAbsent),
         SectionSum::TooLarge => FigureAnswer::Refused(Refusal::SumTooLarge),
@@ -219,11 +222,11 @@ fn line_of_double(key: u32, count: u32, sum: f64, side: Side) -> LineAnswer
 }
 
 // The finished line of a section with this sum.
-fn line_by(key: u32, count: u32, sum: SectionSum) -> LineAnswer
-    requires { ⌜ FiniteSum sum ⌝ }
-    ensures { λ r. ⌜ lineAnswer r ≡ lineBy key count (sumAnswer sum) ⌝ }
+fn line_by(key: u32, count: u32, answer: SectionSum) -> LineAnswer
+    requires { ⌜ FiniteSum answer ⌝ }
+    ensures { λ r. ⌜ lineAnswer r ≡ lineBy key count (sumAnswer answer) ⌝ }
 {
-    match sum {
+    match answer {
         SectionSum::Finite(x, side) => line_of_double(key, count, x, side),
         SectionSum::Absent => LineAnswer::Refused(Refusal::SectionAbsent),
         SectionSum::TooLarge => LineAnswer::Refused(Refusal::SumTooLarge),

@@ -5,8 +5,6 @@ use mathlib.Core.Bool.{false}
 use mathlib.Core.List.{List, [], _∷_}
 use native.Mathlib.Decide.{ℕ-discrete}
 use borrow.Author.Tests.{eq-eqb, ne-eqb}
-use lib.Ieee.Bits.{is-true}
-use lib.Pow.{areBytes}
 use lib.ListN.{length, getD}
 use Rattle.refusal.specs.Outcome.{Outcome, accepted, refused}
 use Rattle.record.specs.Section.{written}
@@ -56,7 +54,7 @@ module _ (len : ℕ → ℕ) where
         agrees-set b b s l a i _ _
         (subst (λ (n : ℕ). HoldsRows (b i) (afterAdd kind (s .tables i) ks vs workLen) (extended (addRowsOutcome kind n (l .rows i) ks vs workLen) (l .rows i) (rowsOf kind ks vs)))
         (a .same-length i)
-        (add-holds (b i) (s .tables i) (l .rows i) (a .tables i) kind ks vs workLen (is-true (areBytes ks) d)))
+        (add-holds (b i) (s .tables i) (l .rows i) (a .tables i) kind ks vs workLen d))
         (a .same-length i)
         (λ j q. refl)
     step-agrees (merge i j d) =
@@ -99,10 +97,10 @@ module _ (len : ℕ → ℕ) where
   agrees-after b s l a [] = a
   agrees-after b s l a (c ∷ cs) = agrees-after (stepBeneath len l b c) (step s c) (stepRows len l c) (step-agrees b s l a c) cs
 
-  pub answers-are : (b : ℕ → List ℕ) (s : State) (l : Ledger) → Agrees len b s l → (cs : List Call) → answers s cs ≡ answersRows len l cs
+  pub answers-by-rows : (b : ℕ → List ℕ) (s : State) (l : Ledger) → Agrees len b s l → (cs : List Call) → answers s cs ≡ answersRows len l cs
   unfolding answers answersRows
-  answers-are b s l a [] = refl
-  answers-are b s l a (c ∷ cs) = ap₂ _∷_ (answer-is b s l a c) (answers-are (stepBeneath len l b c) (step s c) (stepRows len l c) (step-agrees b s l a c) cs)
+  answers-by-rows b s l a [] = refl
+  answers-by-rows b s l a (c ∷ cs) = ap₂ _∷_ (answer-is b s l a c) (answers-by-rows (stepBeneath len l b c) (step s c) (stepRows len l c) (step-agrees b s l a c) cs)
 
 -- ---- no answer is 7
 answer-not-7 : (len : ℕ → ℕ) (l : Ledger) (c : Call) → refuses 7 (answerRows len l c) ≡ false

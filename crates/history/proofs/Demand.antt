@@ -22,11 +22,11 @@ use Rattle.history.specs.Demand3.{History, empty, lengths, rows, beneath
 use Rattle.history.proofs.Sections.{section-count}
 use Rattle.history.proofs.Canonical.{find-canonical}
 use Rattle.history.proofs.Order.{canonical-same}
-use Rattle.history.proofs.Near.{near}
+use Rattle.history.proofs.Near.{kept-near}
 use Rattle.history.proofs.Questions.{ask-is, ask-same}
 use Rattle.history.proofs.Tables.{HoldsRows, sound-is}
 use Rattle.history.proofs.Totals.{totals-canonical}
-use Rattle.history.proofs.Calls.{Agrees, agrees-none, agrees-after, answers-are, answers-not-7}
+use Rattle.history.proofs.Calls.{Agrees, agrees-none, agrees-after, answers-by-rows, answers-not-7}
 
 -- a section has a record where it has a row, and just there
 present-is : (k : ℕ) (bs : List ℕ) → 0 < length bs → sectionIf k bs ≡ some (sectionOf k bs)
@@ -49,7 +49,7 @@ module _ (h : History) where
   state-agrees = agrees-after (lengths h) (h .initial) (empty h) noRows start-agrees (h .calls)
 
   answered-is : answers (empty h) (h .calls) ≡ answersRows (lengths h) noRows (h .calls)
-  answered-is = answers-are (lengths h) (h .initial) (empty h) noRows start-agrees (h .calls)
+  answered-is = answers-by-rows (lengths h) (h .initial) (empty h) noRows start-agrees (h .calls)
 
   module _ (i : ℕ) where
     holds-is : HoldsRows (beneath h i) (table h i) (rows h i)
@@ -92,6 +92,6 @@ demand3 = record {
     sectionOf k (sectionBits k (rows h i)),
     found-is h i k ∙ present-is k (sectionBits k (rows h i)) l,
     section-count k (topOf (sectionBits k (rows h i))) (sectionBits k (rows h i)),
-    near k (sectionBits k (rows h i)),
+    kept-near k (sectionBits k (rows h i)),
   );
 }

@@ -53,8 +53,8 @@ top-large (b ∷ bs) h = go (top-large bs) (decLe (topOf bs) (top b))
 bound : (n R U L : ℕ) → R * 2 ≤ n * U → levelBound * (2 ^ 40 * U) ≤ L → R * 2 ^ 80 ≤ n * L
 bound n R U L h k = omega (arith, mul-le-mul-left n k)
 
-pub near : (k : ℕ) (bs : List ℕ) → natAbs (kept (sectionOf k bs) -ℤ exactSum bs) * 2 ^ 80 ≤ length bs * largest bs
-near k bs = go (decLe (topOf bs) 2)
+pub kept-near : (k : ℕ) (bs : List ℕ) → natAbs (kept (sectionOf k bs) -ℤ exactSum bs) * 2 ^ 80 ≤ length bs * largest bs
+kept-near k bs = go (decLe (topOf bs) 2)
   where
     go : Dec (topOf bs ≤ 2) → natAbs (kept (sectionOf k bs) -ℤ exactSum bs) * 2 ^ 80 ≤ length bs * largest bs
     go (yes l) = rw (apart-none (kept (sectionOf k bs)) (exactSum bs) (kept-exact k (topOf bs) bs (le-refl (topOf bs)) l)) (omega arith)

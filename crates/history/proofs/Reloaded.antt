@@ -1,4 +1,5 @@
--- A saved and reloaded table counts as the one it came from: its file stays on the shelf as it was, with the rows that were saved.
+-- A saved and reloaded table counts as the one it came from: its file stays on the shelf as it was, with the rows that were saved. The idea: two lists
+-- of calls, one with the reloaded table for the other, are followed side by side (`RenamedCalls`), and the ledgers stay alike but for the name of that table.
 use Prim.Native.Nat.{ℕ, _<_}
 use mathlib.Core.Path.{_≡_, refl, sym, _∙_, ap, ap₂}
 use mathlib.Core.Bool.{false}
@@ -21,7 +22,7 @@ use Rattle.history.specs.Run.{Answer, groupsAre, sumIs, figureIs, lineIs
 use Rattle.history.specs.Demand3.{History, lengths, rows, beneath}
 use Rattle.history.specs.Reloaded.{andThen, finalState, fileCount, saving, reloading, SavedAndLoaded, named, uses, loadsInto, exchange, Renamed, RenamedCalls, Reloaded}
 use Rattle.history.proofs.Shelf.{shelf-length}
-use Rattle.history.proofs.Calls.{answer-is, answers-are}
+use Rattle.history.proofs.Calls.{answer-is, answers-by-rows}
 use Rattle.history.proofs.Demand.{state-agrees}
 use Rattle.history.proofs.Alike.{Alike, Names, after-alike, answers-alike}
 
@@ -96,7 +97,7 @@ answer-after : (h : History) (c : Call) → answer (finalState h) c ≡ answerRo
 answer-after h c = answer-is (lengths h) (beneath h) (finalState h) (ledger h) (state-agrees h) c
 
 answers-after : (h : History) (cs : List Call) → answers (finalState h) cs ≡ answersRows (lengths h) (ledger h) cs
-answers-after h cs = answers-are (lengths h) (beneath h) (finalState h) (ledger h) (state-agrees h) cs
+answers-after h cs = answers-by-rows (lengths h) (beneath h) (finalState h) (ledger h) (state-agrees h) cs
 
 -- ---- a table saved and loaded
 module _ (h : History) (i outLen : ℕ) (between : List Call) (j : ℕ) (w : SavedAndLoaded h i outLen between j) where

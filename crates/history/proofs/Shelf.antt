@@ -5,7 +5,7 @@ use mathlib.Core.List.{List, [], _∷_, _++_}
 use native.Mathlib.Omega.{arith}
 use native.Mathlib.Decide.{decLe}
 use borrow.Author.Tests.{le-leb, lt-leb}
-use lib.ListN.{length, take, drop, getD}
+use lib.ListN.{length, take, drop, getD, List·getD-eq-default}
 use lib.Seq.{take-at}
 use Rattle.lists.proofs.All.{All}
 use Rattle.refusal.specs.Outcome.{Outcome, accepted, refused}
@@ -59,11 +59,6 @@ shelf-at (f ∷ fs) [] n h l = absurd h
 shelf-at (f ∷ fs) (r ∷ rs) zero h l = h .0
 shelf-at (f ∷ fs) (r ∷ rs) (suc n) h l = shelf-at fs rs n (h .1) (omega arith)
 
-shelf-past : (fs : List (List ℕ)) (n : ℕ) → length fs ≤ n → getD fs n [] ≡ []
-shelf-past [] n h = refl
-shelf-past (f ∷ fs) zero h = absurd (omega arith)
-shelf-past (f ∷ fs) (suc n) h = shelf-past fs n (omega arith)
-
 -- ---- a save
 module _ (initial : List ℕ) (t : Store) (rows : List Row) (h : HoldsRows initial t rows) (outLen : ℕ) where
   pub save-outcome : saveOutcome (t .buffer) (t .groups) outLen ≡ saveRowsOutcome rows outLen
@@ -88,7 +83,7 @@ module _ (fs : List (List ℕ)) (rs : List (List Row)) (x : ShelfHolds fs rs) (n
   unfolding loadRowsGrounds
   here (yes p) =
       let l = shelf-length fs rs x in
-      rw (le-leb (length rs) n p) (ap (λ (f : List ℕ). loadOutcome f tableLen) (shelf-past fs n (omega arith)) ∙ load-2 [] tableLen (omega arith))
+      rw (le-leb (length rs) n p) (ap (λ (f : List ℕ). loadOutcome f tableLen) (List·getD-eq-default fs [] {n = n} (omega arith)) ∙ load-2 [] tableLen (omega arith))
   here (no p) =
       let a = shelf-at fs rs n x (omega arith) in
       let s = a .store in
@@ -138,7 +133,7 @@ module _ (fs : List (List ℕ)) (rs : List (List Row)) (x : ShelfHolds fs rs) (n
       found : {g : ℕ} → loadOutcome (fileOn fs n) (length (u .buffer)) ≡ accepted g → Dec (length rs ≤ n) → FileHolds (fileOn fs n) (getD rs n [])
       found e (yes p) =
           let l = shelf-length fs rs x in
-          absurd (accepted≢refused (sym (load-2 [] (length (u .buffer)) (omega arith)) ∙ ap (λ (f : List ℕ). loadOutcome f (length (u .buffer))) (sym (shelf-past fs n (omega arith))) ∙ e))
+          absurd (accepted≢refused (sym (load-2 [] (length (u .buffer)) (omega arith)) ∙ ap (λ (f : List ℕ). loadOutcome f (length (u .buffer))) (sym (List·getD-eq-default fs [] {n = n} (omega arith))) ∙ e))
       found e (no p) = shelf-at fs rs n x (omega arith)
 
       go : (o : Outcome ℕ) → loadOutcome (fileOn fs n) (length (u .buffer)) ≡ o

@@ -1,17 +1,15 @@
 -- A table that holds the sections of some rows, as document 01 fixes them, answers an add and a merge by those rows, and after them holds the rows
--- that the call leaves.
-use Prim.Native.Nat.{ℕ, zero, suc, _≤_}
+-- that the call leaves. The idea: of an accepted call the laws of `table` speak (`add-left`, `merge-left`), and the sections that it leaves are those of all rows.
+use Prim.Native.Nat.{ℕ, _≤_}
 use mathlib.Core.Path.{_≡_, refl, sym, _∙_, ap, ap₂, subst}
 use mathlib.Core.Bool.{true}
-use mathlib.Core.List.{List, [], _∷_, _++_}
-use native.Mathlib.Omega.{arith}
-use borrow.Author.Tests.{ltb-true}
-use lib.Dec.{ltb}
+use mathlib.Core.List.{List, [], _++_}
+use lib.Dec.{T, ltb}
 use lib.Pow.{areBytes}
 use lib.Ieee.Bits.{is-true}
 use lib.ListN.{length, length-map}
 use Rattle.codec.specs.Cells.{cells, image}
-use Rattle.codec.proofs.Laws.{AreBytes}
+use Rattle.codec.proofs.Laws.{are-bytes}
 use Rattle.refusal.specs.Outcome.{Outcome, accepted, refused}
 use Rattle.columns.specs.declared.Kind.{Kind}
 use Rattle.columns.specs.Columns.{Row, rowsOf}
@@ -21,7 +19,6 @@ use Rattle.record.specs.Section.{Section, sections, written, sectionAtTop, sect
 use Rattle.table.specs.Combine.{added, merged}
 use Rattle.table.specs.Calls.{overflows, leaves, addSections, columnGrounds, addGrounds, addOutcome, mergeSections, mergeGrounds, mergeOutcome}
 use Rattle.lists.specs.Lists.{anyOf}
-use Rattle.lists.proofs.Booleans.{both-true}
 use Rattle.lists.proofs.Any.{any-map}
 use Rattle.table.proofs.Lookup.{merged-length}
 use Rattle.table.proofs.Bytes.{written-over}
@@ -62,11 +59,6 @@ pub holds-none : (initial : List ℕ) → HoldsRows initial (record { buffer = i
 unfolding canonical sectionNumbers image cells
 holds-none initial = record { table = proper-none initial; has-sections = refl; groups = refl; buffer = refl; same-length = refl }
 
-pub are-bytes : (s : List ℕ) → areBytes s ≡ true → AreBytes s
-are-bytes [] e i = omega arith
-are-bytes (b ∷ bs) e zero = ltb-true b 256 (both-true (ltb b 256) (areBytes bs) e .0)
-are-bytes (b ∷ bs) e (suc i) = are-bytes bs (both-true (ltb b 256) (areBytes bs) e .1) i
-
 module _ (initial : List ℕ) (t : Store) (rows : List Row) (h : HoldsRows initial t rows) where
   pub sound-is : sound (t .buffer) (t .groups) ≡ true
   sound-is = is-true (sound (t .buffer) (t .groups)) (h .table .is-sound)
@@ -100,7 +92,7 @@ module _ (initial : List ℕ) (t : Store) (rows : List Row) (h : HoldsRows initi
           length-canonical (rows ++ rowsOf kind ks vs),
         )
 
-    pub add-holds : areBytes ks ≡ true
+    pub add-holds : T (areBytes ks)
         → HoldsRows initial (afterAdd kind t ks vs workLen) (extended (addRowsOutcome kind (length initial) rows ks vs workLen) rows (rowsOf kind ks vs))
     add-holds b =
         subst (λ (o : Outcome ℕ). HoldsRows initial (afterAdd kind t ks vs workLen) (extended o rows (rowsOf kind ks vs))) add-outcome

@@ -36,11 +36,8 @@ ltb-scale a b s h =
 
 -- n / u and x / v are the same fraction, so their nearest numbers are one, and what is left is the same fraction again
 module _ (n u x v : ℕ) (u-pos : 0 < u) (v-pos : 0 < v) (same : n * v ≡ x * u) where
-  same-units : closest n u ≡ closest x v
-  same-units = closest-same n u x v u-pos v-pos same
-
   same-whole : closest n u * u * v ≡ closest x v * v * u
-  same-whole = rw same-units (omega arith)
+  same-whole = rw (closest-same n u x v u-pos v-pos same) (omega arith)
 
   same-rest : restOf n u * v ≡ restOf x v * u
   same-rest = sym (absDiff-scale n (closest n u * u) v) ∙ ap₂ absDiff same same-whole ∙ absDiff-scale x (closest x v * v) u
@@ -54,7 +51,7 @@ module _ (x u s : ℕ) (u-pos : 0 < u) (s-pos : 0 < s) where
   scaled-up = omega arith
 
   pub units-scale : closest (x * s) (u * s) ≡ closest x u
-  units-scale = same-units (x * s) (u * s) x u (mul-pos u-pos s-pos) u-pos scaled-up
+  units-scale = closest-same (x * s) (u * s) x u (mul-pos u-pos s-pos) u-pos scaled-up
 
   pub direction-scale : roundedUp (x * s) (u * s) ≡ roundedUp x u
   direction-scale = same-direction (x * s) (u * s) x u (mul-pos u-pos s-pos) u-pos scaled-up
@@ -65,7 +62,7 @@ module _ (x u s : ℕ) (u-pos : 0 < u) (s-pos : 0 < s) where
       ∙ absDiff-scale x (closest x u * u) s
 
 -- ---- by sign and size
-neg-signed : (g : Bool) (n : ℕ) → negℤ (signed g n) ≡ signed (not g) n
+pub neg-signed : (g : Bool) (n : ℕ) → negℤ (signed g n) ≡ signed (not g) n
 neg-signed true n = negℤ-negℤ (pos n)
 neg-signed false n = refl
 
@@ -124,7 +121,7 @@ scaled-zero v h g x (suc k) e =
 
 givenBelow-scaled : (v : ℕ) → 0 < v → (t : ℕ) (g : Bool) (n x k : ℕ) → n * v ≡ x * unit t → givenBelow t (signed g n) k ≡ scaled v g x k
 unfolding givenBelow scaled
-givenBelow-scaled v h t g n x zero e = nearest-signed g n (unit t) (unit-pos t) ∙ ap (signed g) (same-units n (unit t) x v (unit-pos t) h e)
+givenBelow-scaled v h t g n x zero e = nearest-signed g n (unit t) (unit-pos t) ∙ ap (signed g) (closest-same n (unit t) x v (unit-pos t) h e)
 givenBelow-scaled v h zero g n x (suc k) e =
     let r : restOf x v ≡ 0 = ap (λ (y : ℕ). restOf y v) (omega arith) ∙ rest-whole n v h in
     sym (scaled-zero v h (flippedIf g (roundedUp x v)) (restOf x v * 2 ^ 40) k (omega arith))

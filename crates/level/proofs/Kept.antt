@@ -4,9 +4,9 @@ use Prim.Native.Nat.{ℕ, zero, suc, _-_, _*_, _^_, _≤_, _<_}
 use native.Mathlib.Nat.{sub-zero, zero-sub, suc-sub-suc, le-refl, le-trans, zero-mul, mul-assoc}
 use native.Mathlib.Decide.{decLe}
 use native.Mathlib.Omega.{arith}
-use lib.IntN.{ℤ, pos, negsuc, natAbs, _+ℤ_, _-ℤ_, _*ℤ_, +ℤ-idl, +ℤ-idr, +ℤ-assoc, +ℤ-comm, -ℤ-+ℤ-cancel}
+use lib.IntN.{ℤ, pos, negsuc, natAbs, _+ℤ_, _-ℤ_, _*ℤ_, +ℤ-idl, +ℤ-idr}
 use lib.Pow.{pow-pos, pow-mono}
-use Rattle.integers.proofs.Laws.{size-zero}
+use Rattle.integers.proofs.Laws.{+ℤ-passing, size-zero}
 use Rattle.integers.proofs.Naturals.{pow-sum}
 use Rattle.level.specs.Double.{negative, exponentField, significand, magnitude, value}
 use Rattle.level.specs.Level.{unit, left, given, top, contribution, below, levelSum}
@@ -44,9 +44,6 @@ after-step zero z (suc n) = rw zero-mul (sym (+ℤ-idr (left z 0)))
 after-step (suc s) z zero = rw sub-zero refl
 after-step (suc s) z (suc n) = rw (suc-sub-suc s n) (after-step s (left z (suc s)) n)
 
-move : (k r l : ℤ) → k +ℤ r +ℤ (l -ℤ r) ≡ k +ℤ l
-move k r l = +ℤ-assoc k r (l -ℤ r) ∙ ap (λ (w : ℤ). k +ℤ w) (+ℤ-comm r (l -ℤ r) ∙ -ℤ-+ℤ-cancel l r)
-
 -- what the levels hold, with what is left, is the number
 pub levelSum-given : (t : ℕ) (z : ℤ) (n : ℕ) → levelSum (given (suc t) z) t n +ℤ leftAfter t z n ≡ z
 unfolding levelSum leftAfter
@@ -55,7 +52,7 @@ levelSum-given t z (suc n) =
     let k = levelSum (given (suc t) z) t n in
     let r = below (given (suc t) z) t n *ℤ pos (unit (t - n)) in
     ap (λ (w : ℤ). k +ℤ r +ℤ w) (after-step t z n ∙ ap (λ (g : ℤ). leftAfter t z n -ℤ g *ℤ pos (unit (t - n))) (givenBelow-is t z n))
-    ∙ move k r (leftAfter t z n) ∙ levelSum-given t z n
+    ∙ +ℤ-passing k r (leftAfter t z n) ∙ levelSum-given t z n
 
 -- of a row, for any start at its top or above
 pub levelSum-row : (b t n : ℕ) → top b ≤ t → levelSum (contribution b) t n +ℤ leftAfter t (value b) n ≡ value b

@@ -8,10 +8,10 @@ use native.Mathlib.Nat.{le-trans, le-max-left, le-max-right}
 use native.Mathlib.Omega.{arith}
 use lib.Dec.{leb}
 use lib.ListN.{length}
-use lib.IntN.{ℤ, pos, negℤ, natAbs, _+ℤ_, _-ℤ_, _*ℤ_, +ℤ-idl, +ℤ-assoc, +ℤ-comm, zero-*ℤ, negℤ-+ℤ, +ℤ-negℤ-cancel}
+use lib.IntN.{ℤ, pos, natAbs, _+ℤ_, _-ℤ_, _*ℤ_, +ℤ-idl, +ℤ-assoc, +ℤ-comm, zero-*ℤ, +ℤ-negℤ-cancel}
 use Rattle.level.specs.Double.{value}
 use Rattle.level.specs.Level.{levelBound, unit, top, contribution, below, levelSum, topOf, total, exactSum}
-use Rattle.integers.proofs.Laws.{+ℤ-*ℤ, natAbs-+ℤ}
+use Rattle.integers.proofs.Laws.{+ℤ-*ℤ, -ℤ-interchange, natAbs-+ℤ}
 use Rattle.integers.proofs.Diff.{+ℤ-interchange}
 use Rattle.level.proofs.Top.{contribution-above, contribution-bound}
 use Rattle.level.proofs.Kept.{leftAfter, after-half, after-none, levelSum-row, levelSum-all}
@@ -74,9 +74,6 @@ row-near b t n h =
     let e : value b -ℤ k ≡ l = ap (λ (z : ℤ). z -ℤ k) (sym (levelSum-row b t (suc n) h) ∙ +ℤ-comm k l) ∙ +ℤ-negℤ-cancel l k in
     rw e (after-half t (value b) n)
 
-apart-sum : (a b k l : ℤ) → (a +ℤ b) -ℤ (k +ℤ l) ≡ (a -ℤ k) +ℤ (b -ℤ l)
-apart-sum a b k l = ap (λ (z : ℤ). a +ℤ b +ℤ z) (negℤ-+ℤ k l) ∙ +ℤ-interchange a b (negℤ k) (negℤ l)
-
 pub section-near : (bs : List ℕ) (t n : ℕ) → topOf bs ≤ t → natAbs (exactSum bs -ℤ levelSum (total bs) t (suc n)) * 2 ≤ length bs * unit (t - n)
 unfolding topOf total exactSum
 section-near [] t n h = let e : levelSum (total []) t (suc n) ≡ pos 0 = levelSum-none t (suc n) in rw e zero-le
@@ -86,7 +83,7 @@ section-near (b ∷ bs) t n h =
     let one = row-near b t n (le-trans (le-max-left (top b) (topOf bs)) h) in
     let rest = section-near bs t n (le-trans (le-max-right (top b) (topOf bs)) h) in
     let sizes = natAbs-+ℤ (value b -ℤ v) (exactSum bs -ℤ w) in
-    rw (levelSum-add (contribution b) (total bs) t (suc n), apart-sum (value b) (exactSum bs) v w) (omega arith)
+    rw (levelSum-add (contribution b) (total bs) t (suc n), -ℤ-interchange (value b) (exactSum bs) v w) (omega arith)
 
 -- where level 0 is among the levels, nothing is lost
 pub section-whole : (bs : List ℕ) (t n : ℕ) → topOf bs ≤ t → t ≤ n → levelSum (total bs) t (suc n) ≡ exactSum bs

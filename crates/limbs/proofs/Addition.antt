@@ -10,7 +10,7 @@ use lib.Dec.{eqb}
 use borrow.Author.Tests.{eq-eqb, ne-eqb, eqb-true, eqb-false}
 use mir.Syntax.{w64}
 use mir.Val.{Fits}
-use Rattle.limbs.specs.Limbs.{valueOf, Reduced, DifferenceWithBias, withoutBias}
+use Rattle.limbs.specs.Limbs.{valueOf, LowReduced, Reduced, DifferenceWithBias, withoutBias}
 
 -- ---- a limb with the carry of the one below it
 
@@ -55,8 +55,8 @@ up-same : (a b c d p q off : ℕ) → off ≤ d → a + 2 ^ 40 * b + 2 ^ 80 * c 
     → a + 2 ^ 40 * b + 2 ^ 80 * c + 2 ^ 120 * (d - off) + q ≡ p
 up-same a b c d p q off h e = omega arith
 
-pub three-lt : (a b c : ℕ) → a < 2 ^ 40 → b < 2 ^ 40 → c < 2 ^ 40 → a + 2 ^ 40 * b + 2 ^ 80 * c < 2 ^ 120
-three-lt a b c h k l = omega arith
+pub three-lt : (a : List ℕ) → LowReduced a → getD a 0 0 + 2 ^ 40 * getD a 1 0 + 2 ^ 80 * getD a 2 0 < 2 ^ 120
+three-lt a l = omega (arith, l .limb0, l .limb1, l .limb2)
 
 less-than-bias : (x d p q off : ℕ) → x < 2 ^ 120 → d < off → x + 2 ^ 120 * d + q ≡ p + 2 ^ 120 * off → p < q
 less-than-bias x d p q off h k e = omega arith
@@ -76,10 +76,10 @@ module _ (a b r : List ℕ) (g : DifferenceWithBias a b r) where
   difference-reduced n h =
       let l : getD r 3 0 - 2 ^ 40 ≤ getD a 3 0 =
       last-le (getD r 0 0 + 2 ^ 40 * getD r 1 0 + 2 ^ 80 * getD r 2 0) _ (getD r 3 0 - 2 ^ 40) (getD a 3 0) (valueOf b)
-      (three-lt (getD a 0 0) (getD a 1 0) (getD a 2 0) (n .limb0) (n .limb1) (n .limb2)) (difference-up h) in
-      record { limb0 = g .limb0; limb1 = g .limb1; limb2 = g .limb2; limb3 = lt-of-le-of-lt l (n .limb3) }
+      (three-lt a (n .low-limbs)) (difference-up h) in
+      record { low-limbs = record { limb0 = g .low-limbs .limb0; limb1 = g .low-limbs .limb1; limb2 = g .low-limbs .limb2 }; limb3 = lt-of-le-of-lt l (n .limb3) }
 
   pub difference-less : getD r 3 0 < 2 ^ 40 → valueOf a < valueOf b
   difference-less h =
       less-than-bias (getD r 0 0 + 2 ^ 40 * getD r 1 0 + 2 ^ 80 * getD r 2 0) (getD r 3 0) (valueOf a) (valueOf b) (2 ^ 40)
-      (three-lt (getD r 0 0) (getD r 1 0) (getD r 2 0) (g .limb0) (g .limb1) (g .limb2)) h (g .biased)
+      (three-lt r (g .low-limbs)) h (g .biased)

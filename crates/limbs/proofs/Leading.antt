@@ -59,7 +59,7 @@ no-low a b h = omega arith
 
 module _ (a : List ℕ) (n : Reduced a) where
   low-lt : getD a 0 0 + 2 ^ 40 * getD a 1 0 < 2 ^ 80
-  low-lt = two-lt (getD a 0 0) (getD a 1 0) (n .limb0) (n .limb1)
+  low-lt = two-lt (getD a 0 0) (getD a 1 0) (n .low-limbs .limb0) (n .low-limbs .limb1)
 
   others-lt : others a < 2 ^ 107
   others-lt = rest-lt (getD a 0 0 + 2 ^ 40 * getD a 1 0) (getD a 2 0) low-lt
@@ -101,7 +101,7 @@ next-limb x d h = omega arith
 
 pub value-lt : (a : List ℕ) (k : ℕ) → Reduced a → getD a 3 0 < 2 ^ k → valueOf a < 2 ^ (k + 120)
 value-lt a k n h =
-    lt-of-lt-of-le (next-limb _ (getD a 3 0) (three-lt (getD a 0 0) (getD a 1 0) (getD a 2 0) (n .limb0) (n .limb1) (n .limb2)))
+    lt-of-lt-of-le (next-limb _ (getD a 3 0) (three-lt a (n .low-limbs)))
     (le-trans (mul-le-mul-right (2 ^ 120) h) (le-of-eq (sym (pow-add 2 k 120))))
 
 pub value-ge : (a : List ℕ) (k : ℕ) → 2 ^ k ≤ getD a 3 0 → 2 ^ (k + 120) ≤ valueOf a

@@ -15,8 +15,8 @@ use Rattle.limbs.specs.Limbs.{valueOf, Reduced, ShiftedLeft}
 
 -- ---- by whole limbs, those above being 0
 
-raised-same : (a b c d : ℕ) → d ≤ 0 → 0 + 2 ^ 40 * a + 2 ^ 80 * b + 2 ^ 120 * c ≡ (a + 2 ^ 40 * b + 2 ^ 80 * c + 2 ^ 120 * d) * 2 ^ 40
-raised-same a b c d h =
+limb-up-same : (a b c d : ℕ) → d ≤ 0 → 0 + 2 ^ 40 * a + 2 ^ 80 * b + 2 ^ 120 * c ≡ (a + 2 ^ 40 * b + 2 ^ 80 * c + 2 ^ 120 * d) * 2 ^ 40
+limb-up-same a b c d h =
     let e : 0 + 2 ^ 40 * a + 2 ^ 80 * b + 2 ^ 120 * c ≡ (a + 2 ^ 40 * b + 2 ^ 80 * c) * 2 ^ 40 = omega arith in
     let f : a + 2 ^ 40 * b + 2 ^ 80 * c ≡ a + 2 ^ 40 * b + 2 ^ 80 * c + 2 ^ 120 * d = omega arith in
     e ∙ ap (λ (x : ℕ). x * 2 ^ 40) f
@@ -28,8 +28,8 @@ limbUp a = 0 ∷ getD a 0 0 ∷ getD a 1 0 ∷ getD a 2 0 ∷ []
 pub limb-up : (a : List ℕ) → Reduced a → getD a 3 0 ≤ 0 → ShiftedLeft a (limbUp a) 40
 limb-up a g h =
     record {
-      reduced = record { limb0 = lit< tt; limb1 = g .limb0; limb2 = g .limb1; limb3 = g .limb2 };
-      same = raised-same (getD a 0 0) (getD a 1 0) (getD a 2 0) (getD a 3 0) h;
+      reduced = record { low-limbs = record { limb0 = lit< tt; limb1 = g .low-limbs .limb0; limb2 = g .low-limbs .limb1 }; limb3 = g .low-limbs .limb2 };
+      same = limb-up-same (getD a 0 0) (getD a 1 0) (getD a 2 0) (getD a 3 0) h;
     }
 
 pub last-pos : (a b c d : ℕ) → 0 < a + 2 ^ 40 * b + 2 ^ 80 * c + 2 ^ 120 * d → d ≤ 0 → c ≤ 0 → b ≤ 0 → 0 < a
@@ -93,11 +93,12 @@ digits-shifted a d h g l =
     let x = getD a 1 0 in
     let y = getD a 2 0 in
     let z = getD a 3 0 in
+    let low = g .low-limbs in
     let full : 40 - d + d ≡ 40 = omega arith in
     let last : z * 2 ^ d % 2 ^ 40 ≡ z * 2 ^ d = mod-eq-of-lt (lt-of-lt-of-le (shl-lt (40 - d) d l) (le-of-eq (ap (λ (k : ℕ). 2 ^ k) full))) in
     let none : 0 * 2 ^ d / 2 ^ 40 ≡ 0 = omega arith in (
       record {
-        reduced = record { limb0 = limb-lt w 0 d h (omega arith); limb1 = limb-lt x w d h (g .limb0); limb2 = limb-lt y x d h (g .limb1); limb3 = limb-lt z y d h (g .limb2) };
+        reduced = record { low-limbs = record { limb0 = limb-lt w 0 d h (omega arith); limb1 = limb-lt x w d h (low .limb0); limb2 = limb-lt y x d h (low .limb1) }; limb3 = limb-lt z y d h (low .limb2) };
         same =
             ap₂ (λ (f e : ℕ). w * 2 ^ d % 2 ^ 40 + f + 2 ^ 40 * shiftedLimb x w d + 2 ^ 80 * shiftedLimb y x d + 2 ^ 120 * (e + y * 2 ^ d / 2 ^ 40)) none last
             ∙ limbs-joined (w * 2 ^ d) (x * 2 ^ d) (y * 2 ^ d) (z * 2 ^ d) _ _ _ _ _ _ (limb-parts (w * 2 ^ d)) (limb-parts (x * 2 ^ d)) (limb-parts (y * 2 ^ d))

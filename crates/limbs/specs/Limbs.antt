@@ -9,33 +9,33 @@ use lib.ListN.{getD}
 abbrev pub valueOf : List ℕ → ℕ
 valueOf a = getD a 0 0 + 2 ^ 40 * getD a 1 0 + 2 ^ 80 * getD a 2 0 + 2 ^ 120 * getD a 3 0
 
--- every limb has 40 digits
-pub record Reduced (a : List ℕ) : Type 0 where
+-- each limb but the last has 40 digits
+pub record LowReduced (a : List ℕ) : Type 0 where
   pub limb0 : getD a 0 0 < 2 ^ 40
   pub limb1 : getD a 1 0 < 2 ^ 40
   pub limb2 : getD a 2 0 < 2 ^ 40
+
+-- every limb has 40 digits
+pub record Reduced (a : List ℕ) : Type 0 where
+  pub low-limbs : LowReduced a
   pub limb3 : getD a 3 0 < 2 ^ 40
 
 -- r is the number n with 40 digits in each limb but the last, which is at most m
 pub record Carried (n m : ℕ) (r : List ℕ) : Type 0 where
   pub same : valueOf r ≡ n
-  pub limb0 : getD r 0 0 < 2 ^ 40
-  pub limb1 : getD r 1 0 < 2 ^ 40
-  pub limb2 : getD r 2 0 < 2 ^ 40
+  pub low-limbs : LowReduced r
   pub limb3 : getD r 3 0 ≤ m
 
 -- ---- a difference
 
--- what is added to a difference, so that it is not negative: 2^160
-abbrev pub bias : ℕ
-bias = 2 ^ 120 * 2 ^ 40
+-- what is added to a difference of limbs, so that it is not negative: 2^160
+abbrev pub differenceBias : ℕ
+differenceBias = 2 ^ 120 * 2 ^ 40
 
 -- r is a - b with the bias, and 40 digits in each limb but the last
 pub record DifferenceWithBias (a b r : List ℕ) : Type 0 where
-  pub biased : valueOf r + valueOf b ≡ valueOf a + bias
-  pub limb0 : getD r 0 0 < 2 ^ 40
-  pub limb1 : getD r 1 0 < 2 ^ 40
-  pub limb2 : getD r 2 0 < 2 ^ 40
+  pub biased : valueOf r + valueOf b ≡ valueOf a + differenceBias
+  pub low-limbs : LowReduced r
 
 -- the limbs with the bias taken off the last
 abbrev pub withoutBias : List ℕ → List ℕ

@@ -4,7 +4,7 @@ use mathlib.Core.Path.{_≡_}
 use mathlib.Core.List.{List, _++_}
 use lib.ListN.{take}
 
--- where s held a continues of its first `at` bytes, the first r bytes of s′ are that continues and then w; r is at most k more
+-- the first r bytes of s′ are the first `at` bytes of s and then w; r is at most k more than `at`
 pub record Continued (s : List ℕ) (at : ℕ) (w : List ℕ) (k : ℕ) (s′ : List ℕ) (r : ℕ) : Type 0 where
   pub continues : take r s′ ≡ take at s ++ w
   pub growth : r ≤ at + k

@@ -1,4 +1,5 @@
--- What an outcome says of its grounds, each named by its number and not by its place in the list.
+-- What an outcome says of its grounds, each named by its number and not by its place in the list. The idea: a list is refused by its first ground or is decided by
+-- the rest, so each law goes by induction on the list, and at each ground by whether it holds.
 use Prim.Native.Nat.{ℕ, suc, _<_, _≤_}
 use mathlib.Core.Path.{_≡_, refl, sym, ap, _∙_}
 use mathlib.Core.Bool.{Bool, true, false, cond, _&&_, true≢false}

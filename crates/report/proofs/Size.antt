@@ -26,7 +26,7 @@ use Rattle.totals.proofs.Rows.{row-total-bound}
 use Rattle.limbs.specs.declared.Side.{Side}
 use Rattle.limbs.specs.declared.Side.the-variants.{Less, Equal, Greater}
 use Rattle.limbs.specs.Side.{sideNumber}
-use Rattle.finish.specs.Figure.{beyond}
+use Rattle.finish.specs.Figure.{largestFigure, beyond}
 use Rattle.finish.specs.Finish.{RoundedSum, sumFor, figureFor, sumGrounds, figureGrounds, sumOf, figureOf}
 use Rattle.numerals.specs.Numerals.{decimalIn, decimal, integer, hexadecimal}
 use Rattle.numerals.specs.Steps.{longestInteger}
@@ -38,7 +38,7 @@ use Rattle.report.proofs.Whole.{columns-left}
 -- ---- one line
 length-figure : (z : ℤ) → beyond z ≡ false → length (integer z) ≤ longestInteger
 unfolding beyond
-length-figure z e = length-integer z (omega (arith, ltb-false 2147483647 (natAbs z) e))
+length-figure z e = length-integer z (omega (arith, ltb-false largestFigure (natAbs z) e))
 
 length-side : (d : Side) → length (integer (sideNumber d)) ≤ longestSide
 unfolding integer decimal decimalIn

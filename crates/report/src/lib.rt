@@ -4,7 +4,6 @@ ghost use Prim.Native.Nat.{_+_, _*_, _≤_};
 ghost use mathlib.Core.List.{_++_};
 ghost use lib.ListN.{length};
 ghost use lib.Dec.{T};
-ghost use lib.Ieee.{binary64, toBits};
 ghost use lib.Ieee.Scale.{finite};
 ghost use Rattle.codec.specs.Cells.{image};
 ghost use Rattle.refusal.specs.Outcome.{refused};
@@ -13,8 +12,8 @@ ghost use Rattle.record.specs.Sound.{sound, soundRecord};
 ghost use Rattle.finish.specs.Answer.{sumAnswer};
 ghost use Rattle.finish.specs.Steps.{FiniteSum};
 ghost use Rattle.limbs.specs.Side.{sideNumber};
-ghost use Rattle.numerals.specs.Numerals.{decimal, integer, hexadecimal};
-ghost use Rattle.numerals.specs.Steps.{Continued, longestBits};
+ghost use Rattle.numerals.specs.Numerals.{decimal, integer};
+ghost use Rattle.numerals.specs.Steps.{Continued};
 ghost use Rattle.columns.specs.declared.Kind.the-variants.{Double};
 ghost use Rattle.report.specs.Text.{tableGroups, space, lineFeed, refusalText, lastFields, lineWith, finishedText, lineText, totalLine, tableText, columnsText, reportText};
 ghost use Rattle.output.specs.Output.{outputAnswer};
@@ -81,12 +80,12 @@ fn print_line(text: &mut [u8], at: usize, line: FinishedLine) -> usize
 }
 
 // The end of a line that is not finished: the sum and the figure's refusal n, or a refused sum in place of both, and a line feed. It has no side.
-fn print_refused_fields(text: &mut [u8], at: usize, sum: SectionSum, n: u32) -> usize
+fn print_refused_fields(text: &mut [u8], at: usize, answer: SectionSum, n: u32) -> usize
     requires { ⌜ at + longestRefusedFields + 1 ≤ length (now text) ⌝ }
-    requires { ⌜ FiniteSum sum ⌝ }
-    ensures { λ r. ⌜ Continued (now (text .entry)) at (lastFields (sumAnswer sum) (refused n) ++ lineFeed) (longestRefusedFields + 1) (now (text .exit)) r ⌝ }
+    requires { ⌜ FiniteSum answer ⌝ }
+    ensures { λ r. ⌜ Continued (now (text .entry)) at (lastFields (sumAnswer answer) (refused n) ++ lineFeed) (longestRefusedFields + 1) (now (text .exit)) r ⌝ }
 {
-    match sum {
+    match answer {
         SectionSum::Finite(x, _) => {
             let next = numerals::print_bits_field(text, at, f64::to_bits(x), b' ');
             print_refusal(text, next, n)
@@ -103,15 +102,15 @@ fn print_unfinished(
     at: usize,
     key: u32,
     count: u32,
-    sum: SectionSum,
+    answer: SectionSum,
     n: u32,
 ) -> usize
     requires { ⌜ at + longestLine ≤ length (now text) ⌝ }
-    requires { ⌜ FiniteSum sum ⌝ }
-    ensures { λ r. ⌜ Continued (now (text .entry)) at (lineWith key count (lastFields (sumAnswer sum) (refused n))) longestLine (now (text .exit)) r ⌝ }
+    requires { ⌜ FiniteSum answer ⌝ }
+    ensures { λ r. ⌜ Continued (now (text .entry)) at (lineWith key count (lastFields (sumAnswer answer) (refused n))) longestLine (now (text .exit)) r ⌝ }
 {
     let next = print_key_and_count(text, at, key, count);
-    print_refused_fields(text, next, sum, n)
+    print_refused_fields(text, next, answer, n)
 }
 
 // The line of a sound record's section.

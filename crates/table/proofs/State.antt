@@ -116,7 +116,7 @@ used-bytes s g ok b =
 
 -- ---- tables whose used bytes agree
 module _ (s t : List ℕ) (g : ℕ) (same : take (g * 64) s ≡ take (g * 64) t) (long : g * 64 ≤ length s) (long′ : g * 64 ≤ length t) where
-  records-agree : records s g ≡ records t g
+  pub records-agree : records s g ≡ records t g
   records-agree = sym (cells-take 64 decode g s long) ∙ ap (cells 64 decode g) same ∙ cells-take 64 decode g t long′
 
   pub sections-agree : sections s g ≡ sections t g

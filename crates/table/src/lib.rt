@@ -1,13 +1,13 @@
 // What the calls on tables share: the tests of two columns, and sections combined by value.
 ghost use mathlib.Core.Path.{_≡_};
-ghost use Prim.Native.Nat.{_+_, _≤_, _<_, _^_, max};
+ghost use Prim.Native.Nat.{_+_, _≤_, _<_, max};
 ghost use lib.Dec.{T};
-ghost use lib.IntN.{pos, _+ℤ_};
+ghost use lib.IntN.{pos};
 ghost use Rattle.level.specs.Level.{below};
 ghost use Rattle.level.specs.Carry.{splitOf};
 ghost use Rattle.record.specs.Sound.{soundRecord};
 ghost use Rattle.record.specs.Section.{meaning, recordOf};
-ghost use Rattle.table.specs.Combine.{ofRow, levelOf, bothAt, combine};
+ghost use Rattle.table.specs.Combine.{ofRow, bothAt, combine};
 ghost use Rattle.table.specs.Calls.{mostRows, columnOutcome};
 ghost use Rattle.table.specs.Answer.{checkAnswer};
 ghost use Rattle.table.specs.Steps.{splitIn};

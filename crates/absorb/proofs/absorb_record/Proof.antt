@@ -8,7 +8,8 @@ use Rattle.record.specs.declared.Place.{Place}
 use Rattle.record.specs.Layout.{records}
 use Rattle.record.specs.Keys.{recordKeys, place}
 use Rattle.record.proofs.Sound.{sound-parts}
-use Rattle.table.proofs.State.{section-proper, sound-fits}
+use Rattle.table.proofs.State.{section-proper}
+use Rattle.table.proofs.Accepted.{proper-bytes}
 use Rattle.absorb.proofs.Absorbing.{Absorbable, at-below, at-old, at-count, at-holds, gap-within, gap-length, gap-holds}
 use Rattle.absorb.proofs.absorb_record.Statement.{statement}
 use Rattle.absorb.proofs.absorb_record.Tie as tie
@@ -23,10 +24,9 @@ module _ (c : tie.After-locate) where
 
   absorbable-here : Absorbable (start .args .t .now) (start .args .g) (start .args .room) (start .args .r)
   absorbable-here = record {
-    sound-table = start .pre .0;
+    table = proper-bytes (start .args .t .now) (start .args .g) (λ n. c .before .before .slice-known .given n .fits) (start .pre .0);
     sound-new = start .pre .1 .1 .0;
     room-fits = start .pre .1 .0 .1;
-    storable = sound-fits (start .args .t .now) (start .args .g) (start .pre .0) (λ n. c .before .before .slice-known .given n .fits);
     proper = section-proper (start .args .r) (key-fits start) (start .pre .1 .1 .0);
     no-overflow = start .pre .1 .1 .1;
   }

@@ -35,11 +35,11 @@ module _ (c : tie.After-row-record) where
   new-record-is : new-record ≡ recordOf (ofRow row)
   new-record-is = c .row-record .ensures ∙ ap₂ (λ (x y : ℕ). recordOf (ofRow (record { key = x; bits = y }))) (c .before .before .u32-at .ensures) (c .before .value-at .ensures)
 
-  made-means : meaning new-record ≡ ofRow row
-  made-means = ap meaning new-record-is ∙ meaning-record (ofRow row)
+  row-means : meaning new-record ≡ ofRow row
+  row-means = ap meaning new-record-is ∙ meaning-record (ofRow row)
 
-  made-sound : T (soundRecord new-record)
-  made-sound =
+  row-is-sound : T (soundRecord new-record)
+  row-is-sound =
       let h = key-fits (c .before .before) in
       let e = c .before .before .u32-at .ensures in
       subst T (sym (ap soundRecord new-record-is ∙ sound-record (ofRow row) (row-proper row (omega arith)))) tt
@@ -56,7 +56,7 @@ absorb-record-requires c κs =
       s .pre .0,
       (
         s .pre .1 .0,
-        (made-sound m, ap (λ (x : Section). anyOf overflows (absorb x (sections (s .args .t .now) (s .args .g)))) (made-means m) ∙ s .pre .1 .1 .1),
+        (row-is-sound m, ap (λ (x : Section). anyOf overflows (absorb x (sections (s .args .t .now) (s .args .g)))) (row-means m) ∙ s .pre .1 .1 .1),
       ),
     )
 
@@ -65,7 +65,7 @@ returns c =
     let a = c .before .before .absorb-record in
     let m = c .before .before .before .before in
     let s = start m in
-    subst (λ (x : Section). Absorbs x (s .args .room) (sections (s .args .t .now) (s .args .g)) (a .last .0) (a .result)) (made-means m) (a .ensures)
+    subst (λ (x : Section). Absorbs x (s .args .room) (sections (s .args .t .now) (s .args .g)) (a .last .0) (a .result)) (row-means m) (a .ensures)
 
 pub absorb-row-spec : {M : Type 1} → statement M
 absorb-row-spec =

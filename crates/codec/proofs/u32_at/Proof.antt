@@ -27,17 +27,17 @@ four s at h =
       numberAt-none (suc (suc (suc (suc at)))) s,
     ))
 
-cast-low : tie.Need-cast-low
-cast-low c = omega (arith, c .shared-slice-known .given (c .before .args .at))
+cast-pair : tie.Need-cast-pair
+cast-pair c = omega (arith, c .shared-slice-known .given (c .before .args .at))
 
-cast-low-2 : tie.Need-cast-low-2
-cast-low-2 c = omega (arith, c .shared-slice-known2 .given (c .before .before .args .at + 1))
+cast-pair-2 : tie.Need-cast-pair-2
+cast-pair-2 c = omega (arith, c .shared-slice-known2 .given (c .before .before .args .at + 1))
 
-mul-low : tie.Need-mul-low
-mul-low c = omega (arith, c .shared-slice-known2 .given (c .before .before .args .at + 1))
+mul-pair : tie.Need-mul-pair
+mul-pair c = omega (arith, c .shared-slice-known2 .given (c .before .before .args .at + 1))
 
-add-low-2 : tie.Need-add-low-2
-add-low-2 c = omega (arith, c .shared-slice-known2 .given (c .before .before .args .at), c .shared-slice-known2 .given (c .before .before .args .at + 1))
+add-pair-2 : tie.Need-add-pair-2
+add-pair-2 c = omega (arith, c .shared-slice-known2 .given (c .before .before .args .at), c .shared-slice-known2 .given (c .before .before .args .at + 1))
 
 cast-result : tie.Need-cast-result
 cast-result c = omega (arith, c .shared-slice-known3 .given (c .before .before .before .args .at + 2))
@@ -63,6 +63,6 @@ returns c = let a = c .before .before .before .before in four (a .args .s .now) 
 pub u32-at-spec : {M : Type 1} → statement M
 u32-at-spec =
     tie.close
-    (tie.spec (λ c. search needs) cast-low (λ c. search needs) (λ c. search needs) cast-low-2 mul-low add-low-2 (λ c. search needs)
+    (tie.spec (λ c. search needs) cast-pair (λ c. search needs) (λ c. search needs) cast-pair-2 mul-pair add-pair-2 (λ c. search needs)
     (λ c. search needs) cast-result mul-result add-result-2 (λ c. search needs) (λ c. search needs) cast-result-2 mul-result-2 add-result-4
     returns)

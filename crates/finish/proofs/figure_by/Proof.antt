@@ -7,10 +7,10 @@ use Rattle.finish.proofs.figure_by.Statement.{statement}
 use Rattle.finish.proofs.figure_by.Tie as tie
 
 mill-figure-requires : tie.Need-mill-figure-requires
-mill-figure-requires c κs = subst FiniteSum (c .before .sum .given .1) (c .before .before .before .pre)
+mill-figure-requires c κs = subst FiniteSum (c .before .answer .given .1) (c .before .before .before .pre)
 
 returns : tie.Need-returns
-returns c = c .mill-figure .ensures ∙ sym (ap (λ (a : SectionSum). figureBy (sumAnswer a)) (c .before .before .sum .given .1))
+returns c = c .mill-figure .ensures ∙ sym (ap (λ (a : SectionSum). figureBy (sumAnswer a)) (c .before .before .answer .given .1))
 
 returns-2 : tie.Need-returns-2
 returns-2 c =

@@ -7,12 +7,12 @@ use Rattle.finish.proofs.line_by.Statement.{statement}
 use Rattle.finish.proofs.line_by.Tie as tie
 
 line-of-double-requires : tie.Need-line-of-double-requires
-line-of-double-requires c κs = subst FiniteSum (c .before .sum .given .1) (c .before .before .before .pre)
+line-of-double-requires c κs = subst FiniteSum (c .before .answer .given .1) (c .before .before .before .pre)
 
 returns : tie.Need-returns
 returns c =
     let a = c .before .before .before .before .args in
-    c .line-of-double .ensures ∙ sym (ap (λ (t : SectionSum). lineBy (a .key) (a .count) (sumAnswer t)) (c .before .before .sum .given .1))
+    c .line-of-double .ensures ∙ sym (ap (λ (t : SectionSum). lineBy (a .key) (a .count) (sumAnswer t)) (c .before .before .answer .given .1))
 
 returns-2 : tie.Need-returns-2
 returns-2 c =

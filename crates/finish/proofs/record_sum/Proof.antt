@@ -1,4 +1,4 @@
--- The distance of the raised totals from their raises is the size of the kept value with its sign; its bits are the sum's.
+-- The distance of the biased totals from their biases is the size of the kept value with its sign; its bits are the sum's.
 use mathlib.Core.Path.{_≡_, sym, ap, ap₂, _∙_}
 use mathlib.Core.Bool.{Bool, not}
 use native.Mathlib.Omega.{arith}
@@ -32,10 +32,10 @@ sized : (c : tie.After-signed-difference)
     → (natAbs (kept-here c) * 2 ^ 80 ≡ valueOf (c .signed-difference .result .limbs) * 2 ^ (40 * c .before .before .before .args .r .top)) × (not (nonNeg (kept-here c)) ≡ c .signed-difference .result .negative)
 sized c =
     let s = c .before .before .before in
-    kept-size (s .args .r) (valueOf (c .signed-difference .result .limbs)) _ _ (c .signed-difference .result .negative) (few s) (s .pre) (c .before .before .raised-limbs .ensures .same) (c .before .raise .ensures .same) (c .signed-difference .ensures .1)
+    kept-size (s .args .r) (valueOf (c .signed-difference .result .limbs)) _ _ (c .signed-difference .result .negative) (few s) (s .pre) (c .before .before .biased-limbs .ensures .same) (c .before .bias-limbs .ensures .same) (c .signed-difference .ensures .1)
 
-raised-limbs-requires : tie.Need-raised-limbs-requires
-raised-limbs-requires c κs =
+biased-limbs-requires : tie.Need-biased-limbs-requires
+biased-limbs-requires c κs =
     let r = c .args .r in
     let p = sound-record-parts r (c .pre) in
     (total-range (r .count) (r .high) (p .high) (few c), (total-range (r .count) (r .middle) (p .middle) (few c), total-range (r .count) (r .low) (p .low) (few c)))
@@ -77,5 +77,5 @@ returns-2 c =
 pub record-sum-spec : {M : Type 1} → statement M
 record-sum-spec =
     tie.close
-    (tie.spec raised-limbs-requires (λ c κs. search needs) (λ c κs. search needs) (λ c κs. search needs) returns (λ c. search needs)
+    (tie.spec biased-limbs-requires (λ c κs. search needs) (λ c κs. search needs) (λ c κs. search needs) returns (λ c. search needs)
     (λ c. search needs) nearest-bits-requires (λ c κs. search needs) returns-2)

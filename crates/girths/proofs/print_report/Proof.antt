@@ -4,6 +4,7 @@ use native.Mathlib.Omega.{arith}
 use lib.ListN.{length, replicate}
 use lib.Seq.{length-take-le}
 use Rattle.report.specs.Text.{reportText}
+use Rattle.report.specs.Steps.{longestText}
 use Rattle.output.specs.Output.{outputAnswer}
 use Rattle.report.proofs.Whole.{printed-fits}
 use borrow.Author.Needs.{needs}
@@ -13,7 +14,7 @@ use Rattle.girths.proofs.print_report.Tie as tie
 fits : (d : tie.After-n) → d .n .given .0 .0 ≤ length (d .before .before .before .report .last .1 .0)
 fits d =
     let r = d .before .before .before .report in
-    let h : d .n .given .0 .0 ≤ 4096 = printed-fits (replicate 4096 0) (reportText (d .before .before .before .before .before .before .args .file .now)) (d .n .given .0 .0) (sym (ap outputAnswer (d .n .given .1)) ∙ r .ensures .0) in
+    let h : d .n .given .0 .0 ≤ longestText = printed-fits (replicate longestText 0) (reportText (d .before .before .before .before .before .before .args .file .now)) (d .n .given .0 .0) (sym (ap outputAnswer (d .n .given .1)) ∙ r .ensures .0) in
     omega (arith, r .kept .1 .0)
 
 array-share-prefix-text : tie.Need-array-share-prefix-text

@@ -14,11 +14,9 @@ returns c =
     let q = s .pre .1 in
     record {
       biased =
-          difference-same _ _ _ _ _ (getD a 0 0) (getD a 1 0) (getD a 2 0) (getD a 3 0) (getD b 0 0) (getD b 1 0) (getD b 2 0) (getD b 3 0) (2 ^ 40) (q .limb0) (q .limb1) (q .limb2) (q .limb3)
+          difference-same _ _ _ _ _ (getD a 0 0) (getD a 1 0) (getD a 2 0) (getD a 3 0) (getD b 0 0) (getD b 1 0) (getD b 2 0) (getD b 3 0) (2 ^ 40) (q .low-limbs .limb0) (q .low-limbs .limb1) (q .low-limbs .limb2) (q .limb3)
           (c .before .before .before .before .limb-difference .ensures) (c .before .before .before .limb-difference2 .ensures) (c .before .before .limb-difference3 .ensures) (c .before .limb-difference4 .ensures) (g .same);
-      limb0 = g .limb0;
-      limb1 = g .limb1;
-      limb2 = g .limb2;
+      low-limbs = g .low-limbs;
     }
 
 pub difference-with-bias-spec : {M : Type 1} → statement M

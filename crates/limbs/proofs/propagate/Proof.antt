@@ -10,7 +10,7 @@ add-d : tie.Need-add-d
 add-d c = sum-fits _ _ (c .pre .3) (sum-lt _ _ (c .pre .2) (sum-lt _ _ (c .pre .1) (sum-one _ (c .pre .0))))
 
 returns : tie.Need-returns
-returns c = record { same = search needs; limb0 = search needs; limb1 = search needs; limb2 = search needs; limb3 = sum-le _ _ (sum-lt _ _ (c .pre .2) (sum-lt _ _ (c .pre .1) (sum-one _ (c .pre .0)))) }
+returns c = record { same = search needs; low-limbs = search needs; limb3 = sum-le _ _ (sum-lt _ _ (c .pre .2) (sum-lt _ _ (c .pre .1) (sum-one _ (c .pre .0)))) }
 
 pub propagate-spec : {M : Type 1} → statement M
 propagate-spec =

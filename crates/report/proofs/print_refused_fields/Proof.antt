@@ -23,7 +23,7 @@ module _ (c : tie.After-print-refusal) where
 
 float-to-bits-print-bits-field : tie.Need-float-to-bits-print-bits-field
 float-to-bits-print-bits-field c =
-    let x = c .before .before .sum .given in
+    let x = c .before .before .answer .given in
     not-nan (x .0 .0) (subst FiniteSum (x .1) (c .before .before .before .before .before .pre .1))
 
 returns : tie.Need-returns
@@ -31,7 +31,7 @@ unfolding lastFields figureFields
 returns c =
     let d = c .before .before in
     let p = sum-printed d in
-    rw (p .before .before .before .sum .given .1) (then-ended (refusalText (p .before .before .before .before .before .before .args .n)) lineFeed (p .print-bits-field .ensures) (figure-printed d))
+    rw (p .before .before .before .answer .given .1) (then-ended (refusalText (p .before .before .before .before .before .before .args .n)) lineFeed (p .print-bits-field .ensures) (figure-printed d))
 
 returns-2 : tie.Need-returns-2
 unfolding lastFields
