@@ -75,6 +75,7 @@ ONE = {
     "magnitude": "a size without its sign",
     "unsigned": "a number or bits without a sign",
     "top": "document 01's top",
+    "tops": "the tops of normal rows by their exponent field: the constant, and the parameter by which an entry of it is read",
     "high": "what belongs to level t",
     "middle": "what belongs to level t - 1",
     "low": "what belongs to level t - 2",

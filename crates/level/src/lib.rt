@@ -1,13 +1,21 @@
 // Level arithmetic.
 ghost use mathlib.Core.Path.{_≡_};
-ghost use Prim.Native.Nat.{_+_, _-_, _*_, _%_, _^_, _<_, _≤_};
+ghost use mathlib.Core.List.{[]};
+ghost use Prim.Native.Nat.{_+_, _-_, _*_, _/_, _%_, _^_, _<_, _≤_};
+ghost use lib.ListN.{length};
 ghost use lib.IntN.{natAbs, _+ℤ_};
 ghost use lib.Ieee.Nearest.{closest};
+ghost use Rattle.lists.specs.Lists.{exceptions};
 ghost use Rattle.level.specs.Double.{exponentField, fraction, finiteBits, significand, negative, signed};
 ghost use Rattle.level.specs.Level.{top};
+ghost use Rattle.level.specs.ByField.{TopOfField, byFormula};
 ghost use Rattle.level.specs.Cut.{shiftOf, restOf, roundedUp, flippedIf};
 ghost use Rattle.level.specs.Carry.{carryBase, carryOf, residueOf, splitOf, totalOf};
 ghost use Rattle.level.specs.Contributions.{contributionsOf};
+
+mod tops;
+
+use tops::TOPS;
 
 // How many units of its top a row's size stays below, and the largest size of a contribution.
 pub const LEVEL_BOUND: u64 = 1 << 39;
@@ -53,13 +61,70 @@ pub fn is_finite(bits: u64) -> bool
     exponent_field(bits) != 2047
 }
 
+// The entry of the exponent field e in a constant table of tops that passes its test.
+fn listed_top(tops: &[u8; 2046], e: u64) -> u8
+    requires { ⌜ (length (now tops) ≡ 2046) × (exceptions byFormula 0 (now tops) ≡ []) × (0 < e) × (e < 2047) ⌝ }
+    ensures { λ r. ⌜ TopOfField e r ⌝ }
+{
+    tops[(e - 1) as usize]
+}
+
+// The top of every row with the exponent field e. A constant array is built on the stack wherever it is read, but for the entries that the compiler
+// rules out. So `usual_top` and `block_top` take a remainder that changes nothing: it says among which entries the field's own is.
+fn field_top(e: u64) -> u64
+    requires { ⌜ (0 < e) × (e < 2047) ⌝ }
+    ensures { λ r. ⌜ TopOfField e r ⌝ }
+{
+    listed_top(&TOPS, e) as u64
+}
+
+// The same for sizes from 2^-27 to 2^37, as lengths in millimetres usually have.
+fn usual_top(e: u64) -> u64
+    requires { ⌜ (995 < e) × (e < 1060) ⌝ }
+    ensures { λ r. ⌜ TopOfField e r ⌝ }
+{
+    field_top(996 + (e - 996) % 64)
+}
+
+// The same for the fields of a block of 256.
+fn block_top(block: u64, e: u64) -> u64
+    requires { ⌜ (e / 256 ≡ block) × (0 < e) × (e < 2047) ⌝ }
+    ensures { λ r. ⌜ TopOfField e r ⌝ }
+{
+    field_top(256 * block + e % 256)
+}
+
+// The same for any field. There is no ninth block, so the last arm is never taken.
+fn any_top(e: u64) -> u64
+    requires { ⌜ (0 < e) × (e < 2047) ⌝ }
+    ensures { λ r. ⌜ TopOfField e r ⌝ }
+{
+    match e / 256 {
+        0 => block_top(0, e),
+        1 => block_top(1, e),
+        2 => block_top(2, e),
+        3 => block_top(3, e),
+        4 => block_top(4, e),
+        5 => block_top(5, e),
+        6 => block_top(6, e),
+        7 => block_top(7, e),
+        _ => field_top(e),
+    }
+}
+
 // The row's top: by the exponent field, or by the fraction's size where that is 0.
 fn top_level(bits: u64) -> u64
     ensures { λ r. ⌜ r ≡ top bits ⌝ }
 {
     let e = exponent_field(bits);
+    if 996 <= e && e < 1060 {
+        return usual_top(e);
+    }
+    if e == 2047 {
+        return 52;
+    }
     if e != 0 {
-        return (e + 52) / 40;
+        return any_top(e);
     }
     if fraction_field(bits) < LEVEL_BOUND {
         0

@@ -3,4 +3,5 @@ pub mod Booleans
 pub mod All
 pub mod Any
 pub mod Places
+pub mod Exceptions
 pub mod Scanning

@@ -1,7 +1,7 @@
 //! The library's calls beside the exact model, on documents' figures and on random and damaged input.
 mod model;
 use model::{Big, Rows, Section};
-use std::collections::BTreeMap;
+use std::collections::{BTreeMap, BTreeSet};
 
 struct Random(u64);
 
@@ -1089,6 +1089,28 @@ fn distance() {
         let kept = model::find(&t, g, 7).unwrap().kept();
         assert!(kept.less(exact).size().shl(80).at_most(largest.times(n as u64)));
     }
+}
+
+/// A row of every finite exponent field, of both signs, with the smallest and the largest fraction, those about a subnormal's bound and one at random: the record
+/// is the model's, which looks for the top level by level. Rows with one field that is not 0 have one top.
+#[test]
+fn tops_of_every_field() {
+    let mut r = Random(6);
+    let mut seen = [false; 53];
+    for field in 0..2047 {
+        let mut tops = BTreeSet::new();
+        for fraction in [0, 1, (1 << 39) - 1, 1 << 39, (1 << 52) - 1, r.below(1 << 52)] {
+            for sign in [0, 1 << 63] {
+                let (k, v) = columns(&[(7, sign | field << 52 | fraction)]);
+                let mut t = vec![0; 64];
+                add_both(&mut t, 0, &k, &v, &mut [0; 64]).unwrap();
+                seen[t[8] as usize] = true;
+                tops.insert(t[8]);
+            }
+        }
+        assert_eq!(tops.len(), if field == 0 { 2 } else { 1 });
+    }
+    assert!(seen.iter().all(|&top| top));
 }
 
 /// Three rows whose sum is an exact half of a hundredth, an odd number of eighths; and its mill figure, which is in range.
