@@ -1,6 +1,7 @@
 """The Python module of bindings/python: its calls, its refusals, and what it checks before a pointer is passed."""
 import ctypes
 import doctest
+import math
 import os
 import pathlib
 import random
@@ -187,6 +188,10 @@ def test_refusals():
     refused(7, girths.merge, full, g, b'', 1)
     refused(7, girths.totals, full, g + 1)
     refused(7, girths.totals, b'', 1)
+    refused(13, girths.exact, full, g, 5)
+    refused(13, girths.exact, b'', 0, 0)
+    refused(7, girths.exact, full, g + 1, 1)
+    refused(7, girths.exact, full, g + 1, 5)
 
 
 def kept(record):
@@ -194,6 +199,135 @@ def kept(record):
     top = struct.unpack_from('<I', record, 8)[0]
     totals = [c * 2 ** 50 + s for s, c in struct.iter_unpack('<Qq', record[16:])]
     return sum(t * Fraction(2) ** (40 * (top - i) - 1074) for i, t in enumerate(totals))
+
+
+def finest(values):
+    """The finest power of doubles: what divides every one of them in units of 2^-1074 is divided by 2 as long as it is even."""
+    common = math.gcd(*(int(Fraction(x) * 2 ** 1074) for x in values))
+    z = 0 if common else 2098
+    while common and common % 2 == 0:
+        common, z = common // 2, z + 1
+    return z
+
+
+def field_of(record):
+    return struct.unpack_from('<I', record, 12)[0]
+
+
+def test_finest_powers():
+    """Every power of two that a double can be, of both signs, alone and in an odd number with as many digits as there may be; and zeros."""
+    r = random.Random(17)
+    for z in range(2098):
+        digits = min(53, 2098 - z)
+        # one that is subnormal, where there is one
+        for odd in 1, 2 ** digits - 1, r.getrandbits(digits) | 1, 2 ** max(52 - z, 1) - 1:
+            x = r.choice((1, -1)) * math.ldexp(odd, z - 1074)
+            table, _ = table_of([(5, x)], groups=1)
+            assert field_of(table) == z == finest([x]), (odd, z)
+    for zeros in [0.0], [-0.0], [0.0, -0.0]:
+        assert field_of(table_of([(5, x) for x in zeros])[0]) == 2098 == finest(zeros)
+        assert field_of(table_of([(5, x) for x in zeros + [2.0 ** 1023]])[0]) == 2097
+
+
+def test_exact():
+    """The edge at each top, and random rows beside exact fractions: a section that is answered exact keeps their sum."""
+    for top in range(53):
+        edge = 40 * (top - 2)
+        for z, known in (max(edge, 0), True), (max(edge - 1, 0), top <= 2):
+            table, g = table_of([(5, math.ldexp(1, max(40 * top - 1, 0) - 1074)), (5, -math.ldexp(1, z - 1074))])
+            assert struct.unpack_from('<II', table, 8) == (top, z) and girths.exact(table, g, 5) is known, (top, z)
+    r, seen = random.Random(18), Counter()
+    for _ in range(3000):
+        low = r.choice((-114, -115, -113, -100, -120, -1074))
+        values = [math.ldexp(r.choice((1, -1)) * r.getrandbits(r.randrange(1, 54)), low + r.randrange(3)) for _ in range(r.randrange(1, 6))] + [r.choice((1.0, 1e-40, 0.0))]
+        values += [-x for x in values] if r.random() < 0.1 else []
+        table, g = table_of([(5, x) for x in values])
+        top, z = struct.unpack_from('<II', table, 8)
+        assert z == min(finest([x]) for x in values) == finest(values)
+        found, whole = girths.exact(table, g, 5), kept(bytes(table[:64])) == sum(map(Fraction, values))
+        assert found is (top <= 2 or z >= 40 * (top - 2)) and (whole or not found), values
+        seen[found, whole, top > 2] += 1
+    assert set(seen) == {(True, True, True), (True, True, False), (False, True, True), (False, False, True)} and min(seen.values()) > 50, seen
+    # lengths that a double with all its digits may have; at either end of their range one step beyond is too far
+    for _ in range(300):
+        values = [0.0] + [r.choice((1, -1)) * math.ldexp(1 + r.getrandbits(52) * 2.0 ** -52, r.randrange(-22, 45)) for _ in range(r.randrange(1, 9))]
+        assert girths.exact(*table_of([(5, x) for x in values]), 5), values
+    last = math.ldexp(2 ** 53 - 1, -74 - 1)
+    for values, known in ([2.0 ** 44, 2 * last], True), ([2.0 ** 44, last], False), ([2.0 ** 45, 2 * last], False):
+        assert girths.exact(*table_of([(5, x) for x in values]), 5) is known, values
+
+
+def test_smaller_finest_powers():
+    """An add and a merge keep the smaller one, whichever has the larger top."""
+    for a, b in [(x, y) for x in (0, 39, 40, 1074, 2097, 2098) for y in (0, 39, 40, 1074, 2097, 2098)]:
+        rows = [(5, 0.0 if z == 2098 else math.ldexp(1, z - 1074)) for z in (a, b)]
+        merged, second = (table_of([row], groups=1)[0] for row in rows)
+        added = bytearray(merged)
+        assert girths.add(added, 1, *pack(rows[1:])) == girths.merge(merged, 1, second, 1) == 1
+        assert field_of(merged) == field_of(added) == min(a, b) and merged == added
+
+
+def older(records):
+    """Records as an older version wrote them: 0 in place of each finest power."""
+    return b''.join(records[i:i + 12] + bytes(4) + records[i + 16:i + 64] for i in range(0, len(records), 64))
+
+
+def test_tables_of_an_older_version():
+    """All but finest powers and exactness is as with the file that has them; a section of the older file keeps 0, and is answered exact for tops up to 2 alone."""
+    r, seen = random.Random(19), Counter()
+    for _ in range(150):
+        lows = r.choice(((-1074,), (-116, 0), (0,)))
+        new, g = table_of([(r.randrange(6), math.ldexp(r.randrange(-4000, 4000), r.choice(lows))) for _ in range(r.randrange(1, 7))])
+        file = girths.save(new, g)
+        old = bytearray(r.randbytes(4096))
+        assert girths.load(older(file[:-16]) + file[-16:], old) == g
+        from_file = keys_of(old, g)
+        for step in range(4):
+            used = 64 * g
+            assert older(old[:used]) == older(new[:used]) and girths.totals(old, g) == girths.totals(new, g)
+            for i, key in enumerate(keys_of(old, g)):
+                assert record_line(old, g, key) == record_line(new, g, key)
+                known = girths.exact(old, g, key), girths.exact(new, g, key)
+                top, z = struct.unpack_from('<II', old, 64 * i + 8)
+                if key in from_file:
+                    assert z == 0 and known[0] is (top <= 2), key
+                else:
+                    assert old[64 * i:64 * i + 64] == new[64 * i:64 * i + 64], key
+                seen[(key in from_file, *known)] += 1
+            rows = [(r.randrange(9), math.ldexp(r.randrange(-4000, 4000), r.choice(lows))) for _ in range(r.randrange(1, 4))]
+            other, many = table_of(rows)
+            if step % 2:
+                after = girths.add(new, g, *pack(rows)), girths.add(old, g, *pack(rows))
+            elif r.random() < 0.5:
+                after = girths.merge(new, g, other, many), girths.merge(old, g, other, many)
+            else:
+                same = bytearray(other)
+                after = girths.merge(other, many, new, g), girths.merge(same, many, old, g)
+                new, old = other, same
+            assert after[0] == after[1]
+            g = after[0]
+    # from the file or not, answered exact in the older table, answered exact in the other
+    assert set(seen) == {(True, True, True), (True, False, True), (True, False, False), (False, True, True), (False, False, False)} and min(seen.values()) > 20, seen
+
+
+def test_unsound_finest_powers():
+    """2,099 and more at any place of a table: every call on it answers 7. Smaller ones are sound, whatever the record says."""
+    for z in 2099, 2 ** 16, 2 ** 31, 2 ** 32 - 1, 2098, 2097, 1, 0:
+        for at in range(3):
+            table = bytearray(many_records(3))
+            table[64 * at + 12:64 * at + 16] = struct.pack('<I', z)
+            answers = []
+            for call, *args in (
+                    (girths.add, bytearray(table), 3, b'', b''), (girths.merge, bytearray(table), 3, b'', 0), (girths.merge, bytearray(192), 0, table, 3), (girths.totals, table, 3),
+                    (girths.save, table, 3), (girths.load, saved(bytes(table)), bytearray(192)), *((call, table, 3, 1) for call in (girths.sum, girths.exact)),
+                    *((call, table, 3, 2) for call in (girths.sum, girths.figure, girths.line, girths.exact))):
+                try:
+                    call(*args)
+                    answers.append(0)
+                except girths.Refused as e:
+                    answers.append(e.number)
+            assert answers == ([7] * 12 if z > 2098 else [0] * 8 + [13] * 4), (z, at, answers)
+            assert check_load(saved(bytes(table)), b'\xa5' * 192) == (-7 if z > 2098 else 3)
 
 
 def test_sides():
@@ -291,8 +425,8 @@ def test_totals_of_lent_tables():
     refused(7, girths.totals, full[:-1], 1024)
     refused(7, girths.totals, full, 2 ** 32 + 1)
     refused(7, girths.totals, full, 2 ** 64 - 1)
-    # a key that does not rise, a row count of 0, a top of 53, a zero field, a residue, a level's total, and a level below 0
-    for at, changed in (0, bytes(4)), (4, bytes(4)), (8, b'\x35'), (12, b'\1'), (16, struct.pack('<Qq', 2 ** 50, -1)), (24, struct.pack('<q', 2 ** 22)), (32, b'\1'):
+    # a key that does not rise, a row count of 0, a top of 53, a finest power, a residue, a level's total, and a level below 0
+    for at, changed in (0, bytes(4)), (4, bytes(4)), (8, b'\x35'), (12, struct.pack('<I', 2099)), (16, struct.pack('<Qq', 2 ** 50, -1)), (24, struct.pack('<q', 2 ** 22)), (32, b'\1'):
         for record in 1, 500, 1023:
             table = bytearray(full)
             table[64 * record + at:64 * record + at + len(changed)] = changed
@@ -301,12 +435,12 @@ def test_totals_of_lent_tables():
 
 
 def is_sound(records):
-    """Whether records make a sound table, by document 01's list of conditions."""
+    """Whether records make a sound table, by document 01's list of conditions, with Card 7's range for the finest power."""
     last = -1
     for at in range(0, len(records), 64):
-        key, count, top, zero, *words = struct.unpack_from('<IIIIQqQqQq', records, at)
+        key, count, top, finest, *words = struct.unpack_from('<IIIIQqQqQq', records, at)
         totals = [c * 2 ** 50 + s for s, c in zip(words[::2], words[1::2])]
-        if key <= last or count == 0 or top > 52 or zero != 0 or any(s >= 2 ** 50 for s in words[::2]):
+        if key <= last or count == 0 or top > 52 or finest > 2098 or any(s >= 2 ** 50 for s in words[::2]):
             return False
         if any(abs(t) > count * 2 ** 39 or t != 0 and top < i for i, t in enumerate(totals)):
             return False
@@ -344,7 +478,7 @@ def check_load(file, table):
 
 
 def many_records(n):
-    return b''.join(struct.pack('<IIIIQqQqQq', 5 * i + 1, 4294967295 - i, 1 + i % 52, 0, i, -1, 7, 0, 0, 0) for i in range(n))
+    return b''.join(struct.pack('<IIIIQqQqQq', 5 * i + 1, 4294967295 - i, 1 + i % 52, 2098 - i, i, -1, 7, 0, 0, 0) for i in range(n))
 
 
 def test_save():
@@ -363,7 +497,7 @@ def test_save():
     refused(7, girths.save, full[:65535], 1024)
     refused(7, girths.save, b'', 1)
     unsound = bytearray(full)
-    unsound[64 * 1023 + 12] = 1
+    unsound[64 * 1023 + 14] = 1
     refused(7, girths.save, unsound, 1024)
     assert girths.save(unsound, 1023) == saved(full[:64 * 1023])
 
@@ -432,16 +566,20 @@ def test_order_of_loading():
 
 
 def test_saved_samples():
-    """Every saved table of samples/ gives the refusal of its name, or the table of the patch file beside it."""
+    """Every saved table of samples/ gives the refusal of its name, or the table of the patch file beside it, or that as an older version saved it."""
     files = sorted((ROOT / 'samples').glob('*.table'))
     kept = [path for path in files if not path.name.startswith('refused-')]
-    assert len(kept) >= 4 and len(files) - len(kept) >= 5
+    assert len(kept) >= 6 and len(files) - len(kept) >= 6
     for path in files:
         data = path.read_bytes()
         answer = check_load(data, b'\xa5' * 4096)
         assert girths.report(data) == (b'refused 5\n' if answer == -3 else b'refused 3\n'), path
         if path not in kept:
             assert answer == -int(path.name.split('-')[1]), path
+            continue
+        if path.name.startswith('older-'):
+            newer = path.with_name(path.name.removeprefix('older-')).read_bytes()
+            assert data != newer and data == older(newer[:-16]) + newer[-16:], path
             continue
         patch, table = path.with_suffix('.patch').read_bytes(), bytearray(4096)
         columns = girths.read(patch)
@@ -522,6 +660,10 @@ def test_checks_of_arguments():
     raises(ValueError, girths.sum, t, 0, 2 ** 32)
     raises(ValueError, girths.figure, t, 0, -1)
     raises(TypeError, girths.line, t, 0, '1')
+    raises(ValueError, girths.exact, t, 0, 2 ** 32)
+    raises(ValueError, girths.exact, t, -1, 0)
+    raises(TypeError, girths.exact, 'text', 0, 0)
+    raises(TypeError, girths.exact, t, 0, 1.0)
     raises(TypeError, girths.totals, 'text', 0)
     raises(TypeError, girths.totals, t, True)
     raises(ValueError, girths.totals, t, -1)

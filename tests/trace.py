@@ -14,7 +14,7 @@ CRATES = ROOT / "crates"
 
 
 # lines of docs/RULES.md that speak of the repository as a whole, of a delivery, or of cards that have not landed
-WHOLE = {"1.7", "2.1", "2.2", "2.3", "5.25", "11.10", "11.11"}
+WHOLE = {"1.7", "2.1", "2.2", "2.3", "5.25", "11.11"}
 ITEM = re.compile(r"(K?\d+(?:\.\d+)?)\. ")
 START = re.compile(ITEM.pattern + r"\*[^*]+\* \(([^)]*)\): ")
 RULE = r"(K?\d+)\.(\d+)"

@@ -1,5 +1,5 @@
 /* A C program over the exported calls: the report of a file by way of girth_report, and again from read, add, line and totals; sums of every side;
- * totals of tables that no rows made; then the file written from its two columns, and what girth_write refuses; last the table saved and loaded, and what
+ * finest powers and exactness; totals of tables that no rows made; then the file written from its two columns, and what girth_write refuses; last the table saved and loaded, and what
  * girth_save and girth_load refuse. */
 #include "girths.h"
 #include <inttypes.h>
@@ -53,6 +53,75 @@ static int finishes(void) {
     return 1;
 }
 
+/* The bits of 2^(z - 1074). */
+static uint64_t power(uint32_t z) {
+    return z < 52 ? (uint64_t)1 << z : (uint64_t)(z - 51) << 52;
+}
+
+/* The row, and a second one where it is not 0, make a section of this top and this finest power, about which the answer is given. */
+static int makes(uint64_t row, uint64_t second, uint32_t top, uint32_t finest, int64_t answer) {
+    static const uint32_t keys[] = {7, 7};
+    const uint64_t rows[] = {row, second};
+    size_t n = second ? 2 : 1;
+    uint32_t fields[4];
+    if (girth_add(one, sizeof one, 0, (const uint8_t *)keys, 4 * n, (const uint8_t *)rows, 8 * n, work, sizeof work) != 1) return 0;
+    memcpy(fields, one, sizeof fields);
+    return fields[2] == top && fields[3] == finest && girth_exact(one, sizeof one, 1, 7) == answer && girth_exact(one, sizeof one, 1, 8) == -13;
+}
+
+/* The same with the two rows in either order. */
+static int both_make(uint64_t row, uint64_t second, uint32_t top, uint32_t finest, int64_t answer) {
+    return makes(row, second, top, finest, answer) && makes(second, row, top, finest, answer);
+}
+
+/* The tables of these two rows, merged, have the finest power. */
+static int merge_gives(uint64_t row, uint64_t second, uint32_t top, uint32_t second_top, uint32_t finest, uint32_t second_finest, uint32_t smaller) {
+    uint8_t other[64];
+    uint32_t z;
+    if (!makes(second, 0, second_top, second_finest, 1)) return 0;
+    memcpy(other, one, sizeof other);
+    if (!makes(row, 0, top, finest, 1) || girth_merge(one, sizeof one, 1, other, sizeof other, 1) != 1) return 0;
+    memcpy(&z, one + 12, sizeof z);
+    return z == smaller;
+}
+
+/* Every power of two that a double can be, of both signs, and three of it and two where there are; zeros; the edge at each top, and one less; merges; a field that is not sound,
+ * which the calls tell, and before 13. */
+static int answers_exact(void) {
+    const uint64_t minus = (uint64_t)1 << 63;
+    for (uint32_t z = 0; z < 2098; z++) {
+        /* the top by its definition: the first level with more than 2^z in its 2^39 units */
+        uint32_t top = 0, top_of_three = 0;
+        while (39 + 40 * top <= z) top++;
+        while (39 + 40 * top_of_three <= z + 1) top_of_three++;
+        uint64_t three = power(z + 1) + (z < 52 ? power(z) : (uint64_t)1 << 51);
+        if (!makes(power(z), 0, top, z, 1) || !makes(power(z) | minus, 0, top, z, 1)) return 0;
+        if (z < 2097 && (!both_make(three, power(z) | minus, top_of_three, z, 1) || !both_make(power(z + 1), power(z), top_of_three, z, 1))) return 0;
+    }
+    if (!makes(0, 0, 0, 2098, 1) || !makes(minus, minus, 0, 2098, 1) || !makes(minus, power(2097), 52, 2097, 1)) return 0;
+    for (uint32_t top = 1; top <= 52; top++) {
+        uint32_t edge = top < 2 ? 0 : 40 * (top - 2);
+        if (!both_make(power(40 * top - 1), power(edge) | minus, top, edge, 1)) return 0;
+        if (edge > 0 && !both_make(power(40 * top - 1), power(edge - 1) | minus, top, edge - 1, 0)) return 0;
+    }
+    if (!merge_gives(power(1074), power(1073), 26, 26, 1074, 1073, 1073) || !merge_gives(power(1073), power(1074), 26, 26, 1073, 1074, 1073)) return 0;
+    if (!merge_gives(power(2000), power(5), 50, 0, 2000, 5, 5) || !merge_gives(power(5), power(2000), 0, 50, 5, 2000, 5) || !merge_gives(minus, power(5), 0, 0, 2098, 5, 5)) return 0;
+    static const uint32_t fields[] = {2099, 1u << 16, 1u << 31, UINT32_MAX, 2098, 0};
+    for (size_t i = 0; i < sizeof fields / sizeof *fields; i++) {
+        int64_t seven = fields[i] > 2098 ? -7 : 0;
+        uint64_t bits, rows;
+        int64_t side;
+        uint8_t other[64];
+        makes(power(1074), 0, 26, 1074, 1);
+        memcpy(one + 12, fields + i, 4);
+        memcpy(other, one, sizeof other);
+        if (girth_exact(one, sizeof one, 1, 7) != (seven ? seven : fields[i] > 0) || girth_exact(one, sizeof one, 1, 8) != (seven ? seven : -13)) return 0;
+        if (girth_sum(one, sizeof one, 1, 7, &bits, &side) != seven || girth_totals(one, sizeof one, 1, &bits, &rows) != seven) return 0;
+        if (girth_merge(one, sizeof one, 1, other, sizeof other, 1) != (seven ? seven : 1) || memcmp(one + 12, fields + i, 4) != 0) return 0;
+    }
+    return 1;
+}
+
 /* What girth_totals gives of the first bytes of the table lent, which it only reads. Before a call each number that it gives is 9. */
 static uint8_t lent[64 * 1026], before[sizeof lent];
 
@@ -80,7 +149,7 @@ static int counts(void) {
     for (size_t i = 0; i < sizeof tables / sizeof *tables; i++) {
         if (!gives_totals(tables[i].length, tables[i].g, tables[i].answer, tables[i].sections, tables[i].rows)) return 0;
     }
-    lent[64 * 1023 + 12] = 1;
+    lent[64 * 1023 + 14] = 1;
     return gives_totals(sizeof lent, 1024, -7, 0, 0) && gives_totals(sizeof lent, 1023, 0, 1023, 4393751542785);
 }
 
@@ -174,7 +243,7 @@ static int saves(void) {
     for (size_t i = 0; i < sizeof calls / sizeof *calls; i++) {
         if (!gives_save(calls[i].length, calls[i].g, calls[i].room, calls[i].answer)) return 0;
     }
-    lent[64 * 1023 + 12] = 1;
+    lent[64 * 1023 + 14] = 1;
     return gives_save(sizeof lent, 1024, 0, -7) && gives_save(sizeof lent, 1024, sizeof out, -7) && gives_save(sizeof lent, 1023, sizeof out, 65488);
 }
 
@@ -229,12 +298,25 @@ static int goes_on(uint64_t g, uint64_t rows) {
     int64_t length = girth_save(table, sizeof table, g, kept, sizeof kept);
     if (length != (int64_t)(64 * g + 16) || !gives_load((size_t)length, sizeof into, (int64_t)g)) return 0;
     uint64_t sections, all, count[2] = {7, 8}, bits[2] = {7, 8};
+    static uint8_t older[sizeof kept];
     int64_t figure[2] = {7, 8}, side[2] = {7, 8};
     uint32_t key;
     memcpy(&key, table, sizeof key);
     if (girth_totals(into, sizeof into, g, &sections, &all) != 0 || sections != g || all != rows || memcmp(into, table, 64 * g) != 0) return 0;
     if (girth_line(table, sizeof table, g, key, count, bits, figure, side) != girth_line(into, sizeof into, g, key, count + 1, bits + 1, figure + 1, side + 1)) return 0;
     if (count[0] != count[1] || bits[0] != bits[1] || figure[0] != figure[1] || side[0] != side[1]) return 0;
+    /* the same as an older version saved it, with 0 in place of finest powers: it is loaded, and its sections are answered exact for tops up to 2 alone */
+    memcpy(older, kept, sizeof older);
+    for (uint64_t i = 0; i < g; i++) memset(older + 64 * i + 12, 0, 4);
+    if (girth_load(older, (size_t)length, older + length, sizeof older - (size_t)length) != (int64_t)g) return 0;
+    for (uint64_t i = 0; i < g; i++) {
+        uint32_t fields[4];
+        memcpy(fields, older + length + 64 * i, sizeof fields);
+        if (girth_exact(older + length, sizeof older - (size_t)length, g, fields[0]) != (fields[2] <= 2) || fields[3] != 0) return 0;
+        if (girth_line(table, sizeof table, g, fields[0], count, bits, figure, side) !=
+            girth_line(older + length, sizeof older - (size_t)length, g, fields[0], count + 1, bits + 1, figure + 1, side + 1)) return 0;
+        if (count[0] != count[1] || bits[0] != bits[1] || figure[0] != figure[1] || side[0] != side[1]) return 0;
+    }
     memset(out, 0xA5, sizeof out);
     return girth_save(into, sizeof into, g, out, sizeof out) == length && memcmp(out, kept, (size_t)length) == 0 && untouched_from((size_t)length);
 }
@@ -282,6 +364,7 @@ int main(int argc, char **argv) {
     if (!saves()) return 17;
     if (!loads()) return 18;
     if (!goes_on((uint64_t)g, (uint64_t)rows)) return 19;
+    if (!answers_exact()) return 20;
     fwrite(text, 1, (size_t)n, stdout);
     return 0;
 }

@@ -29,6 +29,7 @@ ONE = {
     "LineAnswer": "a finished line's answer: the enum, and what it says as an outcome",
     "TableAnswer": "an add's, a merge's or a load's answer: the enum, and what it says as an outcome",
     "TotalsAnswer": "the totals' answer: the enum, and what it says as an outcome",
+    "ExactnessAnswer": "the answer of the question of exactness: the enum, and what it says as an outcome",
     "OutputAnswer": "the answer of a call that is lent a buffer for its output: the enum, and what it says as an outcome",
     "add": "the call that adds two columns, and its entry in a list of calls",
     "merge": "the call that merges two tables, and its entry in a list of calls",
@@ -37,6 +38,8 @@ ONE = {
     "sum": "a section's sum: the call, its question, its field in a line, its entry in the bench book, the double",
     "figure": "a section's mill figure: the call, its question, its field in a line, the case that carries it",
     "line": "a section's finished line: the call, its question, the case that carries it",
+    "exactness": "whether a kept value is known to be exact: the call, and its question",
+    "calls": "the calls of a way of working, with or without loads of older files",
     "totals": "how many sections and rows a table has: the call, its question, the case that carries them, the numbers to be printed",
     "side": "which side of the value that was rounded a number is on: the enum and its fields, Card 2's definition",
     "write": "puts bytes into a lent buffer: a number's, or a patch file",
@@ -75,6 +78,7 @@ ONE = {
     "magnitude": "a size without its sign",
     "unsigned": "a number or bits without a sign",
     "top": "document 01's top",
+    "finest": "Card 7's finest power: of a row, of a section, and the field of its record",
     "tops": "the tops of normal rows by their exponent field: the constant, and the parameter by which an entry of it is read",
     "high": "what belongs to level t",
     "middle": "what belongs to level t - 1",
@@ -111,7 +115,7 @@ ONE = {
 }
 # numbers that exported calls write out, whose names the interface fixes: elsewhere each is the word for what the number stands for
 WRITTEN_OUT = {"rows", "sections", "side"}
-ONE |= {f"of-{call}": "what is said of this call's contract" for call in ("keys", "values", "read", "key-start", "value-start", "write", "report", "girth-read", "girth-write", "girth-report", "girth-sum", "girth-figure", "girth-line", "girth-totals", "save", "load", "girth-save", "girth-load")}
+ONE |= {f"of-{call}": "what is said of this call's contract" for call in ("keys", "values", "read", "key-start", "value-start", "write", "report", "girth-read", "girth-write", "girth-report", "girth-sum", "girth-figure", "girth-line", "girth-exact", "girth-totals", "save", "load", "girth-save", "girth-load")}
 
 NAME = r"[^\s:(){}.,;]+"
 

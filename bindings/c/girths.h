@@ -42,6 +42,12 @@ int64_t girth_figure(const uint8_t *table, size_t table_len, uint64_t g, uint32_
 int64_t girth_line(const uint8_t *table, size_t table_len, uint64_t g, uint32_t key, uint64_t *count, uint64_t *bits, int64_t *figure,
                    int64_t *side);
 
+/* Whether a section's kept value is known to be the exact sum of its rows: 1 for exact, 0 for not known, or -7 or -13. A table is grown from empty where adds
+ * and merges made it from an empty one, and every table merged into it was grown from empty too; saving and loading on the way changes nothing of that.
+ * In such a table 1 says that nothing was dropped of any row. 0 says that something may have been dropped, and need not have been; it is also the answer
+ * for a section with a top above 2 that a file of an older version brought. */
+int64_t girth_exact(const uint8_t *table, size_t table_len, uint64_t g, uint32_t key);
+
 /* How many sections and how many rows a table of g records has, the rows being the row counts of its records added up. The answer is 0, or -7. */
 int64_t girth_totals(const uint8_t *table, size_t table_len, uint64_t g, uint64_t *sections, uint64_t *rows);
 

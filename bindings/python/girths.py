@@ -9,6 +9,8 @@
     (Sum(sum=1.5, side=0), 150)
     >>> girths.line(table, g, 2)
     Line(section=2, rows=1, sum=0.125, figure=13, side=0)
+    >>> girths.exact(table, g, 1)
+    True
     >>> girths.totals(table, g)
     Totals(sections=2, rows=3)
     >>> girths.sum(table, g, 5)
@@ -37,7 +39,7 @@ import subprocess
 import tempfile
 from typing import NamedTuple
 
-__all__ = ['Columns', 'Line', 'NotBuilt', 'Refused', 'Sum', 'Totals', 'add', 'bits', 'figure', 'line', 'load', 'merge', 'read', 'report', 'save', 'sum', 'totals', 'write']
+__all__ = ['Columns', 'Line', 'NotBuilt', 'Refused', 'Sum', 'Totals', 'add', 'bits', 'exact', 'figure', 'line', 'load', 'merge', 'read', 'report', 'save', 'sum', 'totals', 'write']
 
 ROOT = pathlib.Path(__file__).resolve().parents[2]
 LONGEST_FILE = 65536
@@ -150,6 +152,7 @@ _TYPES = {
     'girth_sum': _TABLE + [ctypes.c_uint32, _OUT, _SIGNED_OUT],
     'girth_figure': _TABLE + [ctypes.c_uint32, _SIGNED_OUT],
     'girth_line': _TABLE + [ctypes.c_uint32, _OUT, _OUT, _SIGNED_OUT, _SIGNED_OUT],
+    'girth_exact': _TABLE + [ctypes.c_uint32],
     'girth_totals': _TABLE + [_OUT, _OUT],
     'girth_save': _TABLE + [_BYTES, _LENGTH],
     'girth_load': 2 * [_BYTES, _LENGTH],
@@ -319,6 +322,20 @@ def line(table, g, key):
     g, key = _whole('a group count', g, 64), _whole('a section', key, 32)
     _answer(_library().girth_line(*lent.words, g, key, *map(ctypes.byref, outs)))
     return Line(key, outs[0].value, _double(outs[1].value), outs[2].value, outs[3].value)
+
+
+def exact(table, g, key):
+    """Whether a section's kept value is known to be the exact sum of its rows, or refusals 7 and 13.
+
+    A table is grown from empty where adds and merges made it from an empty one, and every table merged into it was grown from empty too; saving and
+    loading on the way changes nothing of that. In such a table True says that nothing was dropped of any row. False says that something may have been
+    dropped, and need not have been; it is also the answer for a section with a top above 2 that a file of an older version brought."""
+    lent = _Lent('a table', table)
+    g, key = _whole('a group count', g, 64), _whole('a section', key, 32)
+    n = _answer(_library().girth_exact(*lent.words, g, key))
+    if n > 1:
+        raise RuntimeError(f'the library gave the answer {n}, which has no meaning')
+    return n == 1
 
 
 def totals(table, g):

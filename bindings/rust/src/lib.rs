@@ -24,6 +24,7 @@
 //! let line = girths::line(&table, g, 1)?;
 //! assert_eq!((line.count, f64::from_bits(line.bits), line.figure, line.side), (2, 1.5, 150, 0));
 //! assert_eq!(girths::sum(&table, g, 5).unwrap_err().number(), 13);
+//! assert_eq!(girths::exact(&table, g, 1)?, girths::Exactness::Exact);
 //! assert_eq!(girths::totals(&table, g)?, girths::Totals { sections: 2, rows: 3 });
 //!
 //! // the same rows as two patches on two tables, merged
@@ -47,6 +48,11 @@
 //! let values = [1f64, 2f64.powi(-54)].map(f64::to_le_bytes).concat();
 //! let g = girths::add(&mut table, 0, &[0; 8], &values, &mut work)?;
 //! assert_eq!(girths::sum(&table, g, 0)?, girths::Sum { bits: 1f64.to_bits(), side: -1 });
+//! // the table keeps 1 + 2^-54 all the same, but of 1 + 2^-115 it does not keep the last digit
+//! assert_eq!(girths::exact(&table, g, 0)?, girths::Exactness::Exact);
+//! let values = [1f64, 2f64.powi(-115)].map(f64::to_le_bytes).concat();
+//! let g = girths::add(&mut table, 0, &[0; 8], &values, &mut work)?;
+//! assert_eq!(girths::exact(&table, g, 0)?, girths::Exactness::NotKnown);
 //! # Ok::<(), girths::Refusal>(())
 //! ```
 
@@ -69,6 +75,7 @@ extern "C" {
     fn girth_line(
         table: *const u8, table_len: usize, g: u64, key: u32, count: *mut u64, bits: *mut u64, figure: *mut i64, side: *mut i64,
     ) -> i64;
+    fn girth_exact(table: *const u8, table_len: usize, g: u64, key: u32) -> i64;
     fn girth_totals(table: *const u8, table_len: usize, g: u64, sections: *mut u64, rows: *mut u64) -> i64;
     fn girth_save(table: *const u8, table_len: usize, g: u64, out: *mut u8, out_len: usize) -> i64;
     fn girth_load(file: *const u8, file_len: usize, table: *mut u8, table_len: usize) -> i64;
@@ -149,6 +156,17 @@ pub struct Line {
     pub side: i64,
 }
 
+/// Whether a section's kept value is known to be the exact sum of its rows.
+#[derive(Debug, PartialEq, Eq, Clone, Copy)]
+pub enum Exactness {
+    /// In a table grown from empty it is, and nothing was dropped of any row. A table is grown from empty where adds and merges made it from an empty
+    /// one, and every table merged into it was grown from empty too; saving and loading on the way changes nothing of that.
+    Exact,
+    /// Something may have been dropped, and need not have been. This is also the answer for a section with a top above 2 that a file of an older
+    /// version brought.
+    NotKnown,
+}
+
 /// The bottom line of a table.
 #[derive(Debug, PartialEq, Clone, Copy)]
 pub struct Totals {
@@ -161,6 +179,15 @@ pub struct Totals {
 fn answer(r: i64) -> Result<u64, Refusal> {
     assert!(r >= -(GROUNDS.len() as i64), "the library gave the answer {r}, which has no meaning");
     if r < 0 { Err(Refusal(r.unsigned_abs() as u32)) } else { Ok(r as u64) }
+}
+
+/// What is known of a section, by the answer 1 or 0.
+fn exactness(r: i64) -> Result<Exactness, Refusal> {
+    match answer(r)? {
+        0 => Ok(Exactness::NotKnown),
+        1 => Ok(Exactness::Exact),
+        n => panic!("the library gave the answer {n}, which has no meaning"),
+    }
 }
 
 /// The column of so many bytes from a place on, which lies within the file.
@@ -246,6 +273,11 @@ pub fn line(table: &[u8], g: u64, key: u32) -> Result<Line, Refusal> {
     settled(r, l, l == Line { count: 0, bits: 0, figure: 0, side: 0 })
 }
 
+/// Whether a section's kept value is known to be the exact sum of its rows, or refusals 7 and 13.
+pub fn exact(table: &[u8], g: u64, key: u32) -> Result<Exactness, Refusal> {
+    exactness(unsafe { girth_exact(table.as_ptr(), table.len(), g, key) })
+}
+
 /// How many sections and rows a table of g records has, or refusal 7.
 pub fn totals(table: &[u8], g: u64) -> Result<Totals, Refusal> {
     let mut t = Totals { sections: u64::MAX, rows: u64::MAX };
@@ -309,6 +341,12 @@ mod tests {
         assert_eq!(e.to_string(), "refused 18: a saved table would have more than 1,023 groups");
         let e = super::load(b"\0\0\0\0\x11\0\0\0\0\0\0\0TABL", &mut []).unwrap_err();
         assert_eq!(e.to_string(), "refused 19: the length, the distance or the zero field of a saved table is wrong");
+    }
+
+    #[test]
+    #[should_panic(expected = "the answer 2, which has no meaning")]
+    fn a_section_is_exact_or_that_is_not_known() {
+        let _ = super::exactness(2);
     }
 
     #[test]

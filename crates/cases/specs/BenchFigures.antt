@@ -49,7 +49,7 @@ addedUp x (b ∷ bs) = addedUp (ieee.add binary64 x (ofBits binary64 b)) bs
 
 -- the section, or one without rows where there is none
 abbrev pub orEmpty : Option Section → Section
-orEmpty none = record { key = 0; count = 0; top = 0; high = pos 0; middle = pos 0; low = pos 0 }
+orEmpty none = record { key = 0; count = 0; top = 0; finest = 2098; high = pos 0; middle = pos 0; low = pos 0 }
 orEmpty (some s) = s
 
 -- the figure of the same kind that a section has

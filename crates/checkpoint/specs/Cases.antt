@@ -17,7 +17,7 @@ use Rattle.checkpoint.specs.Calls.{saveGrounds, saveOutcome, saveLeaves,
 
 -- a section of one row that is 0
 abbrev zeroSection : ℕ → Section
-zeroSection k = record { key = k; count = 1; top = 0; high = pos 0; middle = pos 0; low = pos 0 }
+zeroSection k = record { key = k; count = 1; top = 0; finest = 2098; high = pos 0; middle = pos 0; low = pos 0 }
 
 -- the 64 bytes of its record
 abbrev zeroRecord : ℕ → List ℕ

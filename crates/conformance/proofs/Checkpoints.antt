@@ -16,14 +16,11 @@ use Rattle.codec.proofs.Laws.{are-bytes}
 use Rattle.exports.specs.Calls.{returnsCount}
 use Rattle.conformance.specs.Called.{countSaid}
 use Rattle.conformance.specs.Checkpoints.{Checkpoints}
-use Rattle.conformance.proofs.Steps.{count-back, save-not-0, load-not-0}
+use Rattle.conformance.proofs.Steps.{count-back, save-not-0, load-said}
 
--- the numbers returned say the outcomes
+-- the number that a save returns says its outcome
 save-said : (s : List ℕ) (g outLen : ℕ) {z : ℤ} → z ≡ returnsCount (saveOutcome s g outLen) → countSaid z ≡ saveOutcome s g outLen
 save-said s g outLen q = count-back (saveOutcome s g outLen) (save-not-0 s g outLen) q
-
-load-said : (f : List ℕ) (tableLen : ℕ) {z : ℤ} → z ≡ returnsCount (loadOutcome f tableLen) → countSaid z ≡ loadOutcome f tableLen
-load-said f tableLen q = count-back (loadOutcome f tableLen) (load-not-0 f tableLen) q
 
 -- over what is lent
 module _ (s : List ℕ) (g : ℕ) (out t : List ℕ) {n : ℕ} (e : saveOutcome s g (length out) ≡ accepted n) (room : 64 * g ≤ length t) where

@@ -2,6 +2,7 @@
 pub mod Steps
 pub mod Possible
 pub mod Lists
+pub mod WorkedOlder
 pub mod Totality
 pub mod Placing
 pub mod Checkpoints

@@ -1,25 +1,31 @@
 -- Calls that step one after the other have the answers and the tables of which demand 3 speaks.
 use Prim.Native.Nat.{ℕ}
-use mathlib.Core.Path.{_≡_, refl, sym, ap, ap₂, _∙_}
+use mathlib.Core.Path.{_≡_, refl, sym, ap, ap₂, subst, _∙_}
+use mathlib.Core.Bool.{true}
 use mathlib.Core.List.{List, [], _∷_}
-use Rattle.history.specs.Rows.{SameRows}
-use Rattle.history.specs.Calls.{Question, totals, Call, ask}
-use Rattle.history.specs.Run.{Store, State, Answer, stateAfter, answer, answers, askTable, askRows}
-use Rattle.history.specs.Demand3.{History, empty, rows, table, used}
+use mathlib.Core.Option.{some}
+use lib.IntN.{ℤ}
+use Rattle.refusal.specs.Outcome.{accepted}
+use Rattle.level.specs.Level.{exactSum}
+use Rattle.record.specs.Section.{Section, find, kept}
+use Rattle.history.specs.Rows.{SameRows, sectionBits}
+use Rattle.history.specs.Calls.{Question, exactness, totals, Call, ask}
+use Rattle.history.specs.Run.{Store, State, Answer, exactnessIs, stateAfter, answer, answers, askTable, askRows}
+use Rattle.history.specs.Demand3.{History, empty, rows, table, used, sectionsIn}
 use Rattle.history.proofs.Demand.{demand3}
 use Rattle.conformance.specs.Worked.{Worked, done, next, CarriedOut, WorkedIs}
 use Rattle.conformance.proofs.Steps.{steps}
 use Rattle.conformance.proofs.Possible.{all-possible}
 
+-- a step that answers x and leaves s′, before calls that answer f and leave g of the state they get
+pub one-more : (f : State → List Answer) (g : State → State) {y x : Answer} {xs : List Answer} {t s′ s″ : State} → (y ≡ x) × (t ≡ s′) → (f s′ ≡ xs) × (g s′ ≡ s″)
+    → (y ∷ f t ≡ x ∷ xs) × (g t ≡ s″)
+one-more f g q r = (ap₂ _∷_ (q .0) (ap f (q .1) ∙ r .0), ap g (q .1) ∙ r .1)
+
 worked : (s : State) (cs : List Call) (xs : List Answer) (s′ : State) → Worked s cs xs s′ → (answers s cs ≡ xs) × (stateAfter s cs ≡ s′)
 unfolding answers stateAfter
 worked s [] xs s′ done = (refl, refl)
-worked s (c ∷ cs) (x ∷ xs) s″ (next {s′ = s′} p w) =
-    let q = steps s c x s′ p in
-    let r = worked s′ cs xs s″ w in (
-      ap₂ _∷_ (q .0) (ap (λ (t : State). answers t cs) (q .1) ∙ r .0),
-      ap (λ (t : State). stateAfter t cs) (q .1) ∙ r .1,
-    )
+worked s (c ∷ cs) (x ∷ xs) s″ (next {s′ = s′} p w) = one-more (λ t. answers t cs) (λ t. stateAfter t cs) (steps s c x s′ p) (worked s′ cs xs s″ w)
 
 table-is : (h : History) (xs : List Answer) (s : State) → CarriedOut h xs s → (i : ℕ) → s .tables i ≡ table h i
 table-is h xs s w i = ap (λ (t : State). t .tables i) (sym (worked (empty h) (h .calls) xs s w .1))
@@ -32,6 +38,13 @@ same-table h h′ xs xs′ s s′ w w′ i j e = (
   λ q. ap (λ (t : Store). askTable t q) (table-is h xs s w i) ∙ demand3 .same-answer h h′ i j q e ∙ sym (ap (λ (t : Store). askTable t q) (table-is h′ xs′ s′ w′ j)),
 )
 
+-- what an answer of exact tells of table t it tells of u, which is t: section k has the kept value n
+pub told-of : {t u : Store} → u ≡ t → (k : ℕ) (n : ℤ)
+    → (askTable t (exactness k) ≡ exactnessIs (accepted true) → (r : Section) × (find k (sectionsIn t) ≡ some r) × (kept r ≡ n))
+    → askTable u (exactness k) ≡ exactnessIs (accepted true) → (r : Section) × (find k (sectionsIn u) ≡ some r) × (kept r ≡ n)
+told-of e k n =
+    subst (λ (t : Store). askTable t (exactness k) ≡ exactnessIs (accepted true) → (r : Section) × (find k (sectionsIn t) ≡ some r) × (kept r ≡ n)) (sym e)
+
 pub worked-is : WorkedIs
 unfolding answer askRows
 worked-is = record {
@@ -43,6 +56,7 @@ worked-is = record {
   same-questions = λ h h′ xs xs′ s s′ w w′ i j e q x x′ t t′ c c′.
       sym (steps s (ask i q) x t c .0) ∙ same-table h h′ xs xs′ s s′ w w′ i j e .2 q ∙ steps s′ (ask j q) x′ t′ c′ .0;
   totals-counted = λ h xs s w i x t c. sym (steps s (ask i totals) x t c .0) ∙ ap (λ (u : Store). askTable u totals) (table-is h xs s w i) ∙ demand3 .fixed-answer h i totals;
+  exact-told = λ h xs s w i k t c. told-of (table-is h xs s w i) k (exactSum (sectionBits k (rows h i))) (demand3 .exact-kept h i k) (steps s (ask i (exactness k)) (exactnessIs (accepted true)) t c .0);
   possible = all-possible;
   buffer-cleared = λ κs a z e l. l .1 .1;
   girth-buffer-cleared = λ κs a z e l. l .1 .1;

@@ -81,5 +81,6 @@ exported = record {
   of-girth-sum = λ κs a z e l. (l .0, l .1 .0, l .1 .1);
   of-girth-figure = λ κs a z e l. l;
   of-girth-line = λ κs a z e l. (l .0, l .1 .0, l .1 .1 .0, l .1 .1 .1 .0, l .1 .1 .1 .1);
+  of-girth-exact = λ κs a z e l. l;
   of-girth-totals = λ κs a z e l. (l .0, l .1 .0, l .1 .1);
 }

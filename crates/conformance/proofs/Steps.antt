@@ -3,7 +3,7 @@
 use Prim.Native.Nat.{ℕ, zero, suc}
 use mathlib.Core.Path.{_≡_, refl, sym, ap, ap₂, subst, _∙_}
 use mathlib.Core.Bool.{Bool, true, false, cond}
-use mathlib.Core.List.{List}
+use mathlib.Core.List.{List, []}
 use lib.IntN.{ℤ, pos}
 use lib.Ieee.{Float, binary64, ofBits}
 use lib.ListN.{length}
@@ -21,16 +21,17 @@ use Rattle.finish.specs.declared.FinishedLine.{FinishedLine}
 use Rattle.limbs.specs.Side.{sideNumber, sideSaid}
 use Rattle.limbs.proofs.Sides.{side-back}
 use Rattle.finish.specs.Finish.{RoundedSum, sumFor, figureFor, lineFor, sumGrounds, figureGrounds, finishedBy, finishing, sumOutcome, figureOutcome, lineOutcome}
+use Rattle.finish.specs.Exact.{answeredExact, exactnessOutcome}
 use Rattle.finish.proofs.Outcomes.{section-given, finished-not, sum-given, line-given, double-back}
 use Rattle.totals.specs.declared.TableTotals.{TableTotals}
 use Rattle.totals.specs.Totals.{tableTotals, totalsGrounds, totalsOutcome}
 use Rattle.checkpoint.specs.Saved.{savedLength, savedTable, groupCount}
-use Rattle.checkpoint.specs.Calls.{saveGrounds, saveOutcome, saveLeaves, loadGrounds, loadOutcome}
+use Rattle.checkpoint.specs.Calls.{saveGrounds, saveOutcome, saveLeaves, loadGrounds, loadOutcome, loadLeaves}
 use Rattle.checkpoint.proofs.Saving.{file-saved}
-use Rattle.exports.specs.Calls.{returnsCount, returnsZero, writes, doubleBits}
+use Rattle.exports.specs.Calls.{returnsCount, returnsZero, returnsFlag, writes, doubleBits}
 use Rattle.history.specs.Calls.{Call, shelved}
-use Rattle.history.specs.Run.{State, Answer, setTable, after, step, groupsAre, sumIs, figureIs, lineIs, totalsAre, lengthIs, askTable, answer}
-use Rattle.conformance.specs.Called.{fileLeft, countSaid, valuesSaid, Called, by-add, by-girth-add, by-merge, by-girth-merge, by-sum, by-figure, by-line, by-girth-sum, by-girth-figure, by-girth-line, by-totals, by-girth-totals, by-save, by-girth-save, by-load, by-girth-load}
+use Rattle.history.specs.Run.{State, Answer, setTable, after, afterLoad, fileOn, step, groupsAre, sumIs, figureIs, lineIs, exactnessIs, totalsAre, lengthIs, askTable, answer}
+use Rattle.conformance.specs.Called.{stateLeft, fileLeft, countSaid, valuesSaid, flagSaid, Called, by-add, by-girth-add, by-merge, by-girth-merge, by-sum, by-figure, by-line, by-exactness, by-girth-sum, by-girth-figure, by-girth-line, by-girth-exact, by-totals, by-girth-totals, by-save, by-girth-save, by-load, by-girth-load}
 
 -- ---- outcomes read back
 
@@ -43,6 +44,17 @@ count-said (refused (suc n)) e = refl
 -- from a number z that a call returned for o
 pub count-back : (o : Outcome ℕ) → isRefusal 0 o ≡ false → {z : ℤ} → z ≡ returnsCount o → countSaid z ≡ o
 count-back o n q = ap countSaid q ∙ count-said o n
+
+-- from a number z that a call returned for a yes or no
+flag-back : (o : Outcome Bool) → isRefusal 0 o ≡ false → {z : ℤ} → z ≡ returnsFlag o → flagSaid z ≡ o
+unfolding isRefusal
+flag-back o n q = ap flagSaid q ∙ by o n
+  where
+    by : (o : Outcome Bool) → isRefusal 0 o ≡ false → flagSaid (returnsFlag o) ≡ o
+    by (accepted true) n = refl
+    by (accepted false) n = refl
+    by (refused zero) n = never (cc)
+    by (refused (suc m)) n = refl
 
 -- from z and the values y that it wrote out, which are those of an accepted o
 given-out : {A : Type 0} (o : Outcome A) (y : A) {z : ℤ} → isRefusal 0 o ≡ false → ((x : A) → o ≡ accepted x → y ≡ x) → z ≡ returnsZero o → valuesSaid y z ≡ o
@@ -71,9 +83,13 @@ pub save-not-0 : (s : List ℕ) (g outLen : ℕ) → isRefusal 0 (saveOutcome s 
 unfolding saveOutcome saveGrounds
 save-not-0 s g outLen = not-given 0 (saveGrounds s g outLen) (savedLength g) refl
 
-pub load-not-0 : (f : List ℕ) (tableLen : ℕ) → isRefusal 0 (loadOutcome f tableLen) ≡ false
+load-not-0 : (f : List ℕ) (tableLen : ℕ) → isRefusal 0 (loadOutcome f tableLen) ≡ false
 unfolding loadOutcome loadGrounds
 load-not-0 f tableLen = not-given 0 (loadGrounds f tableLen) (groupCount f) refl
+
+-- the number that a load returns says its outcome
+pub load-said : (f : List ℕ) (tableLen : ℕ) {z : ℤ} → z ≡ returnsCount (loadOutcome f tableLen) → countSaid z ≡ loadOutcome f tableLen
+load-said f tableLen q = count-back (loadOutcome f tableLen) (load-not-0 f tableLen) q
 
 finishing-not-0 : {A : Type 0} (gs : Section → List Ground) (v : Section → A) → ((t : Section) → isGround 0 (gs t) ≡ false) → (s : List ℕ) (g k : ℕ) → isRefusal 0 (finishing (finishedBy gs v) s g k) ≡ false
 unfolding isRefusal
@@ -103,6 +119,9 @@ module _ (s : List ℕ) (g k : ℕ) where
   figure-read : {z y : ℤ} → z ≡ returnsZero (figureOutcome s g k) → y ≡ writes (pos 0) (λ (f : ℤ). f) (figureOutcome s g k) → valuesSaid y z ≡ figureOutcome s g k
   figure-read q w =
       given-out (figureOutcome s g k) _ (finishing-not-0 figureGrounds figureFor (λ t. refl) s g k) (λ x e. w ∙ ap (writes (pos 0) (λ (f : ℤ). f)) e) q
+
+  exactness-read : {z : ℤ} → z ≡ returnsFlag (exactnessOutcome s g k) → flagSaid z ≡ exactnessOutcome s g k
+  exactness-read q = flag-back (exactnessOutcome s g k) (finishing-not-0 (λ (t : Section). []) answeredExact (λ t. refl) s g k) q
 
   -- the line is that of the section found: its number is k, its sum that section's
   line-back : (l : FinishedLine) → lineOutcome s g k ≡ accepted l → (k ≡ l .key) × (ofBits binary64 (doubleBits (l .sum)) ≡ l .sum)
@@ -148,6 +167,14 @@ saved-on s g out files p q = rw (p, q) (by (saveOutcome s g (length out)) refl)
     by (accepted n) e = ap (λ (f : List ℕ). shelved (accepted n) f files) (sym (file-saved s g out e))
     by (refused n) e = refl
 
+-- a load of any file f into table i, by what it answered, o, and the bytes b that it left: the file was lent as f₀, the table's bytes as b₀
+pub loaded : (s : State) (i : ℕ) (f : List ℕ) {f₀ b₀ b : List ℕ} {o : Outcome ℕ} → f ≡ f₀ → s .tables i .buffer ≡ b₀ → o ≡ loadOutcome f₀ (length b₀) → b ≡ loadLeaves f₀ b₀
+    → (groupsAre (loadOutcome f (length (s .tables i .buffer))) ≡ groupsAre o) × (setTable i (afterLoad (s .tables i) f) s ≡ stateLeft s i o b)
+loaded s i f p q eo eb = (
+  rw (p, q) (ap groupsAre (sym eo)),
+  rw (p, q) (ap₂ (λ (o : Outcome ℕ) (b : List ℕ). setTable i (after o b (s .tables i .groups)) s) (sym eo) (sym eb)),
+)
+
 pub steps : (s : State) (c : Call) (x : Answer) (s′ : State) → Called s c x s′ → (answer s c ≡ x) × (step s c ≡ s′)
 unfolding answer step askTable
 steps s c x s′ (by-add i κs a z e b p l) = (
@@ -171,9 +198,11 @@ steps s c x s′ (by-girth-merge i j apart κs a z e p q l) =
 steps s c x s′ (by-sum i κs a z e p l) = (rw (p .0, p .1) (ap sumIs (sym l)), refl)
 steps s c x s′ (by-figure i κs a z e p l) = (rw (p .0, p .1) (ap figureIs (sym l)), refl)
 steps s c x s′ (by-line i κs a z e p l) = (rw (p .0, p .1) (ap lineIs (sym l)), refl)
+steps s c x s′ (by-exactness i κs a z e p l) = (rw (p .0, p .1) (ap exactnessIs (sym l)), refl)
 steps s c x s′ (by-girth-sum i κs a z e p l) = (rw (p .0, p .1) (ap sumIs (sym (sum-read _ _ _ (l .0) (l .1 .0) (l .1 .1)))), refl)
 steps s c x s′ (by-girth-figure i κs a z e p l) = (rw (p .0, p .1) (ap figureIs (sym (figure-read _ _ _ (l .0) (l .1)))), refl)
 steps s c x s′ (by-girth-line i κs a z e p l) = (rw (p .0, p .1) (ap lineIs (sym (line-read _ _ _ (l .0) (l .1 .0) (l .1 .1 .0) (l .1 .1 .1 .0) (l .1 .1 .1 .1)))), refl)
+steps s c x s′ (by-girth-exact i κs a z e p l) = (rw (p .0, p .1) (ap exactnessIs (sym (exactness-read _ _ _ l))), refl)
 steps s c x s′ (by-totals i κs a z e p l) = (rw (p .0, p .1) (ap totalsAre (sym l)), refl)
 steps s c x s′ (by-girth-totals i κs a z e p l) = (rw (p .0, p .1) (ap totalsAre (sym (totals-read _ _ (l .0) (l .1 .0) (l .1 .1)))), refl)
 steps s c x s′ (by-save i κs a z e p l) = (
@@ -185,12 +214,5 @@ steps s c x s′ (by-girth-save i κs a z e p l) =
       rw (p .0, p .1) (ap lengthIs (sym q)),
       rw (p .0, p .1) (ap (λ (files : List (List ℕ)). record { tables = s .tables; shelf = files }) (saved-on (now (a .0)) (a .1 .0) (now (a .1 .1 .0)) (s .shelf) q (l .1))),
     )
-steps s c x s′ (by-load i n κs a z e f p l) = (
-  rw (f, p) (ap groupsAre (sym (l .0))),
-  rw (f, p) (ap₂ (λ (o : Outcome ℕ) (b : List ℕ). setTable i (after o b (s .tables i .groups)) s) (sym (l .0)) (sym (l .1))),
-)
-steps s c x s′ (by-girth-load i n κs a z e f p l) =
-    let q = count-back (loadOutcome (now (a .0)) (length (now (a .1 .0)))) (load-not-0 _ _) (l .0) in (
-      rw (f, p) (ap groupsAre (sym q)),
-      rw (f, p) (ap₂ (λ (o : Outcome ℕ) (b : List ℕ). setTable i (after o b (s .tables i .groups)) s) (sym q) (sym (l .1))),
-    )
+steps s c x s′ (by-load i n κs a z e f p l) = loaded s i (fileOn (s .shelf) n) f p (l .0) (l .1)
+steps s c x s′ (by-girth-load i n κs a z e f p l) = loaded s i (fileOn (s .shelf) n) f p (load-said _ _ (l .0)) (l .1)

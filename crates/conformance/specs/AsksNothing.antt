@@ -23,6 +23,8 @@ use Rattle.finish.proofs.figure.Reads as figureReads
 use Rattle.finish.proofs.figure.Kinds as figureKinds
 use Rattle.finish.proofs.line.Reads as lineReads
 use Rattle.finish.proofs.line.Kinds as lineKinds
+use Rattle.finish.proofs.exactness.Reads as exactnessReads
+use Rattle.finish.proofs.exactness.Kinds as exactnessKinds
 use Rattle.totals.proofs.totals.Reads as totalsReads
 use Rattle.totals.proofs.totals.Kinds as totalsKinds
 use Rattle.checkpoint.proofs.save.Reads as saveReads
@@ -43,6 +45,8 @@ use Rattle.exports.proofs.girth_figure.Reads as girthFigureReads
 use Rattle.exports.proofs.girth_figure.Kinds as girthFigureKinds
 use Rattle.exports.proofs.girth_line.Reads as girthLineReads
 use Rattle.exports.proofs.girth_line.Kinds as girthLineKinds
+use Rattle.exports.proofs.girth_exact.Reads as girthExactReads
+use Rattle.exports.proofs.girth_exact.Kinds as girthExactKinds
 use Rattle.exports.proofs.girth_totals.Reads as girthTotalsReads
 use Rattle.exports.proofs.girth_totals.Kinds as girthTotalsKinds
 use Rattle.exports.proofs.girth_write.Reads as girthWriteReads
@@ -67,6 +71,7 @@ pub record AsksNothing : Type 1 where
   pub of-sum : (κs : Lfts 1) (a : Dens κs sumKinds.ps) → sumReads.Asked κs a
   pub of-figure : (κs : Lfts 1) (a : Dens κs figureKinds.ps) → figureReads.Asked κs a
   pub of-line : (κs : Lfts 1) (a : Dens κs lineKinds.ps) → lineReads.Asked κs a
+  pub of-exactness : (κs : Lfts 1) (a : Dens κs exactnessKinds.ps) → exactnessReads.Asked κs a
   pub of-totals : (κs : Lfts 1) (a : Dens κs totalsKinds.ps) → totalsReads.Asked κs a
   pub of-save : (κs : Lfts 2) (a : Dens κs saveKinds.ps) → saveReads.Asked κs a
   pub of-load : (κs : Lfts 2) (a : Dens κs loadKinds.ps) → loadReads.Asked κs a
@@ -77,6 +82,7 @@ pub record AsksNothing : Type 1 where
   pub of-girth-sum : (κs : Lfts 3) (a : Dens κs girthSumKinds.ps) → girthSumReads.Asked κs a
   pub of-girth-figure : (κs : Lfts 2) (a : Dens κs girthFigureKinds.ps) → girthFigureReads.Asked κs a
   pub of-girth-line : (κs : Lfts 5) (a : Dens κs girthLineKinds.ps) → girthLineReads.Asked κs a
+  pub of-girth-exact : (κs : Lfts 1) (a : Dens κs girthExactKinds.ps) → girthExactReads.Asked κs a
   pub of-girth-totals : (κs : Lfts 3) (a : Dens κs girthTotalsKinds.ps) → girthTotalsReads.Asked κs a
   pub of-girth-write : (κs : Lfts 3) (a : Dens κs girthWriteKinds.ps) → girthWriteReads.Asked κs a
   pub of-girth-save : (κs : Lfts 2) (a : Dens κs girthSaveKinds.ps) → girthSaveReads.Asked κs a

@@ -1,8 +1,8 @@
 -- Calls by their contracts, as callers learn them: in a state whose tables are lent, what each of them answers and the state that it leaves. A contract is
 -- `Learnt`, of the arguments a, the result z and what was lent, e, at the call's end.
-use Prim.Native.Nat.{ℕ, suc}
+use Prim.Native.Nat.{ℕ, zero, suc}
 use mathlib.Core.Path.{_≡_}
-use mathlib.Core.Bool.{not}
+use mathlib.Core.Bool.{Bool, true, false, not}
 use mathlib.Core.List.{List, []}
 use lib.Dec.{T, eqb}
 use lib.IntN.{ℤ, pos, negsuc}
@@ -19,9 +19,10 @@ use Rattle.output.specs.Output.{outputAnswer}
 use Rattle.columns.specs.declared.Kind.the-variants.{Double}
 use Rattle.table.specs.Answer.{tableAnswer}
 use Rattle.finish.specs.Answer.{sumAnswer, figureAnswer, lineAnswer}
+use Rattle.finish.specs.Exact.{exactnessAnswer}
 use Rattle.totals.specs.Answer.{totalsAnswer}
-use Rattle.history.specs.Calls.{sum, figure, line, totals, Call, add, merge, ask, save, load, shelved}
-use Rattle.history.specs.Run.{Store, State, setTable, after, fileOn, Answer, groupsAre, sumIs, figureIs, lineIs, totalsAre, lengthIs}
+use Rattle.history.specs.Calls.{sum, figure, line, exactness, totals, Call, add, merge, ask, save, load, shelved}
+use Rattle.history.specs.Run.{Store, State, setTable, after, fileOn, Answer, groupsAre, sumIs, figureIs, lineIs, exactnessIs, totalsAre, lengthIs}
 use Rattle.add.proofs.add.Reads as addReads
 use Rattle.add.proofs.add.Kinds as addKinds
 use Rattle.merge.proofs.merge.Reads as mergeReads
@@ -32,6 +33,8 @@ use Rattle.finish.proofs.figure.Reads as figureReads
 use Rattle.finish.proofs.figure.Kinds as figureKinds
 use Rattle.finish.proofs.line.Reads as lineReads
 use Rattle.finish.proofs.line.Kinds as lineKinds
+use Rattle.finish.proofs.exactness.Reads as exactnessReads
+use Rattle.finish.proofs.exactness.Kinds as exactnessKinds
 use Rattle.totals.proofs.totals.Reads as totalsReads
 use Rattle.totals.proofs.totals.Kinds as totalsKinds
 use Rattle.checkpoint.proofs.save.Reads as saveReads
@@ -48,6 +51,8 @@ use Rattle.exports.proofs.girth_figure.Reads as girthFigureReads
 use Rattle.exports.proofs.girth_figure.Kinds as girthFigureKinds
 use Rattle.exports.proofs.girth_line.Reads as girthLineReads
 use Rattle.exports.proofs.girth_line.Kinds as girthLineKinds
+use Rattle.exports.proofs.girth_exact.Reads as girthExactReads
+use Rattle.exports.proofs.girth_exact.Kinds as girthExactKinds
 use Rattle.exports.proofs.girth_totals.Reads as girthTotalsReads
 use Rattle.exports.proofs.girth_totals.Kinds as girthTotalsKinds
 use Rattle.exports.proofs.girth_save.Reads as girthSaveReads
@@ -82,6 +87,12 @@ abbrev pub valuesSaid : {A : Type 0} → A → ℤ → Outcome A
 valuesSaid x (pos n) = accepted x
 valuesSaid x (negsuc n) = refused (suc n)
 
+-- what it says of a call that answers yes or no: 0 for no, another number from 0 on for yes
+abbrev pub flagSaid : ℤ → Outcome Bool
+flagSaid (pos zero) = accepted false
+flagSaid (pos (suc n)) = accepted true
+flagSaid (negsuc n) = refused (suc n)
+
 -- in the state s the call answers x and leaves the state s′; a and e have what is lent and given in the order of the parameters, a at first and e at the end
 pub data Called (s : State) : Call → Answer → State → Type 1 where
   -- table, group count, keys, values and work buffer; that the keys hold bytes is not said of a call's arguments
@@ -98,13 +109,15 @@ pub data Called (s : State) : Call → Answer → State → Type 1 where
   by-girth-merge : (i j : ℕ) (apart : T (not (eqb i j))) (κs : Lfts 2) (a : Dens κs girthMergeKinds.ps) (z : resT girthMergeKinds.r κs .Denot) (e : AtExit (endedOf 2 girthMergeKinds.ps girthMergeKinds.r) κs)
       → Lent (s .tables i) (now (a .0)) (a .1 .0) → Lent (s .tables j) (now (a .1 .1 .0)) (a .1 .1 .1 .0) → girthMergeReads.Learnt κs a z e
       → Called s (merge i j apart) (groupsAre (countSaid z)) (stateLeft s i (countSaid z) (now (e .0)))
-  -- table, group count and section number; an exported call writes its values out through what follows them
+  -- table, group count and section number; an exported call writes its values out through what follows them, or returns a yes or no
   by-sum : (i : ℕ) (κs : Lfts 1) (a : Dens κs sumKinds.ps) (z : resT sumKinds.r κs .Denot) (e : AtExit (endedOf 1 sumKinds.ps sumKinds.r) κs)
       → Lent (s .tables i) (now (a .0)) (a .1 .0) → sumReads.Learnt κs a z e → Called s (ask i (sum (a .1 .1 .0))) (sumIs (sumAnswer z)) s
   by-figure : (i : ℕ) (κs : Lfts 1) (a : Dens κs figureKinds.ps) (z : resT figureKinds.r κs .Denot) (e : AtExit (endedOf 1 figureKinds.ps figureKinds.r) κs)
       → Lent (s .tables i) (now (a .0)) (a .1 .0) → figureReads.Learnt κs a z e → Called s (ask i (figure (a .1 .1 .0))) (figureIs (figureAnswer z)) s
   by-line : (i : ℕ) (κs : Lfts 1) (a : Dens κs lineKinds.ps) (z : resT lineKinds.r κs .Denot) (e : AtExit (endedOf 1 lineKinds.ps lineKinds.r) κs)
       → Lent (s .tables i) (now (a .0)) (a .1 .0) → lineReads.Learnt κs a z e → Called s (ask i (line (a .1 .1 .0))) (lineIs (lineAnswer z)) s
+  by-exactness : (i : ℕ) (κs : Lfts 1) (a : Dens κs exactnessKinds.ps) (z : resT exactnessKinds.r κs .Denot) (e : AtExit (endedOf 1 exactnessKinds.ps exactnessKinds.r) κs)
+      → Lent (s .tables i) (now (a .0)) (a .1 .0) → exactnessReads.Learnt κs a z e → Called s (ask i (exactness (a .1 .1 .0))) (exactnessIs (exactnessAnswer z)) s
   by-girth-sum : (i : ℕ) (κs : Lfts 3) (a : Dens κs girthSumKinds.ps) (z : resT girthSumKinds.r κs .Denot) (e : AtExit (endedOf 3 girthSumKinds.ps girthSumKinds.r) κs)
       → Lent (s .tables i) (now (a .0)) (a .1 .0) → girthSumReads.Learnt κs a z e
       → Called s (ask i (sum (a .1 .1 .0))) (sumIs (valuesSaid (record { sum = ofBits binary64 (now (e .1 .1 .1 .0)); side = sideSaid (now (e .1 .1 .1 .1 .0)) }) z)) s
@@ -114,6 +127,8 @@ pub data Called (s : State) : Call → Answer → State → Type 1 where
   by-girth-line : (i : ℕ) (κs : Lfts 5) (a : Dens κs girthLineKinds.ps) (z : resT girthLineKinds.r κs .Denot) (e : AtExit (endedOf 5 girthLineKinds.ps girthLineKinds.r) κs)
       → Lent (s .tables i) (now (a .0)) (a .1 .0) → girthLineReads.Learnt κs a z e
       → Called s (ask i (line (a .1 .1 .0))) (lineIs (valuesSaid (record { key = a .1 .1 .0; count = now (e .1 .1 .1 .0); sum = ofBits binary64 (now (e .1 .1 .1 .1 .0)); figure = now (e .1 .1 .1 .1 .1 .0); side = sideSaid (now (e .1 .1 .1 .1 .1 .1 .0)) }) z)) s
+  by-girth-exact : (i : ℕ) (κs : Lfts 1) (a : Dens κs girthExactKinds.ps) (z : resT girthExactKinds.r κs .Denot) (e : AtExit (endedOf 1 girthExactKinds.ps girthExactKinds.r) κs)
+      → Lent (s .tables i) (now (a .0)) (a .1 .0) → girthExactReads.Learnt κs a z e → Called s (ask i (exactness (a .1 .1 .0))) (exactnessIs (flagSaid z)) s
   -- table and group count, and what the exported call writes its two numbers through
   by-totals : (i : ℕ) (κs : Lfts 1) (a : Dens κs totalsKinds.ps) (z : resT totalsKinds.r κs .Denot) (e : AtExit (endedOf 1 totalsKinds.ps totalsKinds.r) κs)
       → Lent (s .tables i) (now (a .0)) (a .1 .0) → totalsReads.Learnt κs a z e → Called s (ask i totals) (totalsAre (totalsAnswer z)) s

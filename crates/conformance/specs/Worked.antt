@@ -1,17 +1,21 @@
 -- Calls one after the other, each by its contract, and what demand 3 says of ways of working that are carried out so.
 use Prim.Native.Nat.{ℕ}
 use mathlib.Core.Path.{_≡_}
+use mathlib.Core.Bool.{true}
 use mathlib.Core.List.{List, [], _∷_}
+use mathlib.Core.Option.{some}
 use contract.Lifetimes.{Lfts}
 use borrow.Fn.Kinds.{Dens, endedOf, resT}
 use denote.Triple.Clauses.{AtExit}
 use denote.Ref.{now}
 use Rattle.refusal.specs.Outcome.{accepted}
+use Rattle.level.specs.Level.{exactSum}
+use Rattle.record.specs.Section.{Section, find, kept}
 use Rattle.table.specs.Calls.{cleared}
-use Rattle.history.specs.Rows.{SameRows, rowsTotals}
-use Rattle.history.specs.Calls.{Question, totals, Call, ask, noRows}
-use Rattle.history.specs.Run.{State, Answer, totalsAre, step, stateAfter, answer, answers, answersRows, askTable}
-use Rattle.history.specs.Demand3.{History, empty, lengths, rows, table, used}
+use Rattle.history.specs.Rows.{SameRows, sectionBits, rowsTotals}
+use Rattle.history.specs.Calls.{Question, exactness, totals, Call, ask, noRows}
+use Rattle.history.specs.Run.{State, Answer, exactnessIs, totalsAre, step, stateAfter, answer, answers, answersRows, askTable}
+use Rattle.history.specs.Demand3.{History, empty, lengths, rows, table, used, sectionsIn}
 use Rattle.add.proofs.add.Reads as addReads
 use Rattle.add.proofs.add.Kinds as addKinds
 use Rattle.exports.proofs.girth_add.Reads as girthAddReads
@@ -45,6 +49,9 @@ pub record WorkedIs : Type 1 where
   -- the totals that a call gives of a table are the number of distinct sections of its rows and the number of its rows
   pub totals-counted : (h : History) (xs : List Answer) (s : State) → CarriedOut h xs s → (i : ℕ) (x : Answer) (t : State) → Called s (ask i totals) x t
       → x ≡ totalsAre (accepted (rowsTotals (rows h i)))
+  -- a section of which a call tells that its kept value is known to be exact has a kept value equal to the exact sum of its rows
+  pub exact-told : (h : History) (xs : List Answer) (s : State) → CarriedOut h xs s → (i k : ℕ) (t : State) → Called s (ask i (exactness k)) (exactnessIs (accepted true)) t
+      → (r : Section) × (find k (sectionsIn (s .tables i)) ≡ some r) × (kept r ≡ exactSum (sectionBits k (rows h i)))
   -- every list of calls can be carried out
   pub possible : (s : State) (cs : List Call) → (xs : List Answer) × (s′ : State) × Worked s cs xs s′
   -- an add leaves only zeros in its work buffer

@@ -15,11 +15,13 @@ ghost use Rattle.table.specs.Calls.{addOutcome, addLeaves, cleared, mergeOutcom
 ghost use Rattle.table.specs.Answer.{tableAnswer};
 ghost use Rattle.limbs.specs.Side.{sideNumber};
 ghost use Rattle.finish.specs.Finish.{sumOutcome, figureOutcome, lineOutcome};
+ghost use Rattle.finish.specs.Exact.{exactnessOutcome};
 ghost use Rattle.totals.specs.Totals.{totalsOutcome};
 ghost use Rattle.checkpoint.specs.Calls.{saveOutcome, saveLeaves, loadOutcome, loadLeaves};
 ghost use Rattle.report.specs.Text.{reportText};
 ghost use Rattle.report.specs.Answer.{printOutcome, printLeaves};
-ghost use Rattle.exports.specs.Calls.{returnsCount, returnsZero, writes, doubleBits};
+ghost use Rattle.exports.specs.Calls.{returnsCount, returnsZero, returnsFlag, writes, doubleBits};
+use finish::ExactnessAnswer;
 use finish::FigureAnswer;
 use finish::LineAnswer;
 use finish::SectionSum;
@@ -169,6 +171,18 @@ pub extern "C" fn girth_line(
             0
         }
         LineAnswer::Refused(r) => minus(r),
+    }
+}
+
+// Whether a section's kept value is known to be the exact sum of its rows: 1 if so, 0 if not.
+#[no_mangle]
+pub extern "C" fn girth_exact(table: &[u8], g: u64, key: u32) -> i64
+    ensures { λ r. ⌜ r ≡ returnsFlag (exactnessOutcome (now (table .entry)) g key) ⌝ }
+{
+    match finish::exactness(table, g as usize, key) {
+        ExactnessAnswer::Exact => 1,
+        ExactnessAnswer::NotKnown => 0,
+        ExactnessAnswer::Refused(r) => minus(r),
     }
 }
 

@@ -9,3 +9,4 @@ pub mod Fraction
 pub mod Halves
 pub mod Outcomes
 pub mod Negated
+pub mod Exact

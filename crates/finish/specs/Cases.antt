@@ -13,12 +13,13 @@ use Rattle.codec.specs.Cells.{cells, image}
 use Rattle.record.specs.Layout.{encode, decode}
 use Rattle.record.specs.Keys.{rising}
 use Rattle.record.specs.Sound.{sound, soundRecords, soundRecord, soundTotal, isZero}
-use Rattle.record.specs.Section.{sectionAtTop, sectionOf, kept, sectionBytes, find}
+use Rattle.record.specs.Section.{Section, sectionAtTop, sectionOf, kept, sectionBytes, find}
 use Rattle.limbs.specs.declared.Side.{Side}
 use Rattle.limbs.specs.declared.Side.the-variants.{Less, Equal, Greater}
 use Rattle.finish.specs.Sum.{nearestDouble, limit, tooLarge}
 use Rattle.finish.specs.Side.{side}
 use Rattle.finish.specs.Figure.{millFigure, beyond}
+use Rattle.finish.specs.Exact.{answeredExact, exactnessOutcome}
 use Rattle.finish.specs.Finish.{RoundedSum, sumOf, figureOf, lineOutcome}
 use Rattle.finish.specs.declared.FinishedLine.{FinishedLine}
 
@@ -117,7 +118,7 @@ bound = (refl, refl)
 -- in a table of one record, of section 7 with the row 1.5: its line; a section that is absent; more records than there are bytes; document 01's
 -- examples of 13 and 7
 oneSection : List ℕ
-oneSection = sectionBytes (record { key = 7; count = 1; top = 26; high = pos (3 * 2 ^ 33); middle = pos 0; low = pos 0 } ∷ [])
+oneSection = sectionBytes (record { key = 7; count = 1; top = 26; finest = 1073; high = pos (3 * 2 ^ 33); middle = pos 0; low = pos 0 } ∷ [])
 
 -- what finishing gives there
 lines : List (Outcome FinishedLine)
@@ -127,3 +128,17 @@ lines = lineOutcome oneSection 1 7 ∷ lineOutcome oneSection 1 8 ∷ lineOutcom
 lines-right : lines ≡ accepted (record { key = 7; count = 1; sum = ofBits binary64 0x3FF8000000000000; figure = pos 150; side = Equal }) ∷ refused 13 ∷ refused 7 ∷ refused 13 ∷ refused 7 ∷ []
 unfolding oneSection lines find kept nearestDouble tooLarge side millFigure beyond round toBits ofBits sound soundRecords soundRecord soundTotal isZero rising cells image decode encode bytes numberAt number
 lines-right = refl
+
+-- a section of top t and finest power z
+abbrev ofTop : ℕ → ℕ → Section
+ofTop t z = record { key = 1; count = 1; top = t; finest = z; high = pos 0; middle = pos 0; low = pos 0 }
+
+-- exact up to top 2 whatever z is, and above it from 40 × (t - 2) on
+exact-from : map answeredExact (ofTop 0 0 ∷ ofTop 2 0 ∷ ofTop 3 39 ∷ ofTop 3 40 ∷ ofTop 26 959 ∷ ofTop 26 960 ∷ ofTop 52 1999 ∷ ofTop 52 2000 ∷ [])
+    ≡ true ∷ true ∷ false ∷ true ∷ false ∷ true ∷ false ∷ true ∷ []
+exact-from = refl
+
+-- in the table of one record: 1.5 is exact; a section that is absent; more records than there are bytes, where 7 goes before 13
+exactness-right : exactnessOutcome oneSection 1 7 ∷ exactnessOutcome oneSection 1 8 ∷ exactnessOutcome oneSection 2 8 ∷ [] ≡ accepted true ∷ refused 13 ∷ refused 7 ∷ []
+unfolding oneSection find sound soundRecords soundRecord soundTotal isZero rising cells image decode encode bytes numberAt number
+exactness-right = refl

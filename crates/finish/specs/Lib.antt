@@ -5,6 +5,7 @@ pub mod Figure
 pub mod Finish
 pub mod Negated
 pub mod Answer
+pub mod Exact
 pub mod Biased
 pub mod Steps
 pub mod Cases

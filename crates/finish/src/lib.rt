@@ -20,6 +20,7 @@ ghost use Rattle.limbs.specs.Nearest.{nearestBy};
 ghost use Rattle.finish.specs.Figure.{awayFromZero, millFigure, beyond};
 ghost use Rattle.finish.specs.Finish.{figureOf, lineOf, sumOutcome, figureOutcome, lineOutcome};
 ghost use Rattle.finish.specs.Answer.{sumAnswer, figureAnswer, lineAnswer};
+ghost use Rattle.finish.specs.Exact.{exactnessOf, exactnessOutcome, exactnessAnswer};
 ghost use Rattle.finish.specs.Side.{oppositeSide};
 ghost use Rattle.finish.specs.Steps.{LookedUp, keptSum, sumOfBits, FiniteSum, figureBy, lineBy};
 ghost use Rattle.finish.specs.Biased.{carryBias, totalBias, biasedCarry, biasedTotal, Stacked};
@@ -50,6 +51,13 @@ pub struct FinishedLine {
 // A section's finished line, or why there is none.
 pub enum LineAnswer {
     Line(FinishedLine),
+    Refused(Refusal),
+}
+
+// Whether a section's kept value is known to be the exact sum of its rows, or why the question is refused.
+pub enum ExactnessAnswer {
+    Exact,
+    NotKnown,
     Refused(Refusal),
 }
 
@@ -299,5 +307,30 @@ pub fn line(table: &[u8], g: usize, key: u32) -> LineAnswer
         Lookup::Found(r) => record_line(r),
         Lookup::Missing => LineAnswer::Refused(Refusal::SectionAbsent),
         Lookup::Unsound => LineAnswer::Refused(Refusal::TableNotSound),
+    }
+}
+
+// Whether the levels of a record drop nothing of its rows: with a top of 2 or less level 0 is kept, and otherwise every row has to be a whole number of
+// the lowest kept units.
+fn record_exactness(r: Record) -> ExactnessAnswer
+    ensures { λ x. ⌜ exactnessAnswer x ≡ exactnessOf (some (meaning r)) ⌝ }
+{
+    if r.top <= 2 {
+        return ExactnessAnswer::Exact;
+    }
+    if 40 * ((r.top as u64) - 2) <= r.finest as u64 {
+        return ExactnessAnswer::Exact;
+    }
+    ExactnessAnswer::NotKnown
+}
+
+// Whether the section's kept value is known to be exact.
+pub fn exactness(table: &[u8], g: usize, key: u32) -> ExactnessAnswer
+    ensures { λ r. ⌜ exactnessAnswer r ≡ exactnessOutcome (now (table .entry)) g key ⌝ }
+{
+    match look_up(table, g, key) {
+        Lookup::Found(r) => record_exactness(r),
+        Lookup::Missing => ExactnessAnswer::Refused(Refusal::SectionAbsent),
+        Lookup::Unsound => ExactnessAnswer::Refused(Refusal::TableNotSound),
     }
 }

@@ -48,7 +48,7 @@ module _ (len : ℕ → ℕ) where
     length-beneath i (accepted g) = ap length (sym (a .tables i .buffer)) ∙ a .tables i .same-length ∙ a .same-length i
     length-beneath i (refused n) = a .same-length i
 
-    step-agrees : (c : Call) → Agrees len (stepBeneath len l b c) (step s c) (stepRows len l c)
+    pub step-agrees : (c : Call) → Agrees len (stepBeneath len l b c) (step s c) (stepRows len l c)
     unfolding step stepRows stepBeneath
     step-agrees (add i kind ks vs d workLen) =
         agrees-set b b s l a i _ _

@@ -12,4 +12,8 @@ pub mod Calls
 pub mod Demand
 pub mod Alike
 pub mod Reloaded
+pub mod Faded
+pub mod Fades
+pub mod FadedFiles
+pub mod Older
 pub mod Terms

@@ -1,4 +1,4 @@
--- A section's kept value and the exact sum of its rows: equal at tops up to 2, within half a lowest unit for each row at any top that is at least
+-- A section's kept value and the exact sum of its rows: equal where every row is a whole multiple of the lowest level's unit, as it is at tops up to 2, within half a lowest unit for each row at any top that is at least
 -- every row's, and at the largest top within (the number of its rows) × (its largest row in size) × 2^-80.
 use Prim.Native.Nat.{ℕ, suc, _-_, _*_, _^_, _≤_, max}
 use mathlib.Core.Path.{_≡_, _∙_}
@@ -14,7 +14,8 @@ use Rattle.level.specs.Double.{magnitude}
 use Rattle.level.specs.Level.{levelBound, unit, top, levelSum, topOf, total, exactSum}
 use Rattle.level.proofs.Given.{unit-suc}
 use Rattle.level.proofs.Top.{top-least}
-use Rattle.level.proofs.Section.{section-near, section-whole}
+use Rattle.level.proofs.Section.{section-near, section-exact}
+use Rattle.level.specs.Finest.{finestOf}
 use Rattle.record.specs.Section.{kept, sectionAtTop, sectionOf}
 use Rattle.history.specs.Rows.{largest}
 
@@ -25,9 +26,9 @@ module _ (k t : ℕ) (bs : List ℕ) where
   unfolding kept levelSum sectionAtTop
   kept-levels = rw (sub-zero t, leb·zero t, +ℤ-idl (total bs t *ℤ pos (unit t)))
 
-  -- tops up to 2: level 0 is kept, so nothing is lost
-  pub kept-exact : topOf bs ≤ t → t ≤ 2 → kept (sectionAtTop k t bs) ≡ exactSum bs
-  kept-exact h l = kept-levels ∙ section-whole bs t 2 h l
+  -- where every row is a whole multiple of the lowest level's unit, nothing is lost; that unit is 1 for tops up to 2
+  pub kept-exact : topOf bs ≤ t → 40 * (t - 2) ≤ finestOf bs → kept (sectionAtTop k t bs) ≡ exactSum bs
+  kept-exact h l = kept-levels ∙ section-exact bs t 2 h l
 
   -- half a lowest unit for each row
   pub kept-within : topOf bs ≤ t → natAbs (kept (sectionAtTop k t bs) -ℤ exactSum bs) * 2 ≤ length bs * unit (t - 2)
@@ -57,7 +58,7 @@ pub kept-near : (k : ℕ) (bs : List ℕ) → natAbs (kept (sectionOf k bs) -ℤ
 kept-near k bs = go (decLe (topOf bs) 2)
   where
     go : Dec (topOf bs ≤ 2) → natAbs (kept (sectionOf k bs) -ℤ exactSum bs) * 2 ^ 80 ≤ length bs * largest bs
-    go (yes l) = rw (apart-none (kept (sectionOf k bs)) (exactSum bs) (kept-exact k (topOf bs) bs (le-refl (topOf bs)) l)) (omega arith)
+    go (yes l) = rw (apart-none (kept (sectionOf k bs)) (exactSum bs) (kept-exact k (topOf bs) bs (le-refl (topOf bs)) (omega arith))) (omega arith)
     go (no l) =
         let lower : topOf bs - 1 ≡ suc (topOf bs - 2) = omega arith in
         bound (length bs) (natAbs (kept (sectionOf k bs) -ℤ exactSum bs)) (unit (topOf bs - 2)) (largest bs)

@@ -13,15 +13,16 @@ use lib.Seq.{getD-append-seam}
 use Rattle.lists.specs.Lists.{anyOf}
 use Rattle.lists.proofs.Booleans.{both-false}
 use Rattle.lists.proofs.All.{All, all-map, all-hold}
+use Rattle.lists.proofs.Pairwise.{pairwise-length}
 use Rattle.lists.proofs.Any.{any-false, any-false-append}
 use Rattle.refusal.specs.Outcome.{Outcome, accepted, refused}
 use Rattle.columns.specs.Columns.{Row}
 use Rattle.history.specs.Calls.{Call, add, merge, ask, save, load, saveRowsOutcome, loadRowsOutcome, Ledger, noRows, update, setRows, replaced, shelved, stepRows, ledgerAfter}
 use Rattle.history.specs.Beneath.{stepBeneath, beneathAfter}
-use Rattle.history.specs.Run.{Answer, groupsAre, sumIs, figureIs, lineIs, totalsAre, lengthIs, answer, answers, answerRows, answersRows}
+use Rattle.history.specs.Run.{Answer, groupsAre, sumIs, figureIs, lineIs, exactnessIs, totalsAre, lengthIs, answer, answers, answerRows, answersRows}
 use Rattle.history.specs.Demand3.{History, lengths, rows, beneath}
 use Rattle.history.specs.Reloaded.{andThen, finalState, fileCount, saving, reloading, SavedAndLoaded, named, uses, loadsInto, exchange, Renamed, RenamedCalls, Reloaded}
-use Rattle.history.proofs.Shelf.{shelf-length}
+use Rattle.history.proofs.Shelf.{FileHolds}
 use Rattle.history.proofs.Calls.{answer-is, answers-by-rows}
 use Rattle.history.proofs.Demand.{state-agrees}
 use Rattle.history.proofs.Alike.{Alike, Names, after-alike, answers-alike}
@@ -84,11 +85,12 @@ module _ (i : ℕ) where
       after-unused len (stepRows len l c) cs (p .1) ∙ step-unused len l c (any-false (eqb i) (named c) (p .0))
 
 -- ---- the outcome that an answer has
-abbrev outcomeIn : Answer → Outcome ℕ
+abbrev pub outcomeIn : Answer → Outcome ℕ
 outcomeIn (groupsAre o) = o
 outcomeIn (sumIs o) = refused 0
 outcomeIn (figureIs o) = refused 0
 outcomeIn (lineIs o) = refused 0
+outcomeIn (exactnessIs o) = refused 0
 outcomeIn (totalsAre o) = refused 0
 outcomeIn (lengthIs o) = o
 
@@ -123,7 +125,7 @@ module _ (h : History) (i outLen : ℕ) (between : List Call) (j : ℕ) (w : Sav
       let l = ledger h in
       let m = stepRows (lengths h) l (save i outLen) in
       let e : m .savedRows ≡ l .savedRows ++ rows h i ∷ [] = ap (λ (o : Outcome ℕ). shelved o (rows h i) (l .savedRows)) save-is in
-      let n : fileCount h ≡ length (l .savedRows) = shelf-length (finalState h .shelf) (l .savedRows) (state-agrees h .files) in
+      let n : fileCount h ≡ length (l .savedRows) = pairwise-length FileHolds (finalState h .shelf) (l .savedRows) (state-agrees h .files) in
       let room : length (l .savedRows) < length (m .savedRows) = rw (e, length-append (l .savedRows) (rows h i ∷ [])) (omega arith) in
       ap₂ (λ (k : Ledger) (x : ℕ). getD (k .savedRows) x []) (ledger-then h (save i outLen ∷ between)) n
       ∙ after-stays (length (l .savedRows)) (lengths h) m between room

@@ -1,21 +1,24 @@
 -- A file on the shelf is that of a table that held its rows: saving puts such a file there, and loading one is answered by the rows and leaves a table that holds them.
-use Prim.Native.Nat.{ℕ, zero, suc, _*_, _≤_, _<_}
+use Prim.Native.Nat.{ℕ, _*_, _≤_}
 use mathlib.Core.Path.{_≡_, refl, sym, _∙_, ap, ap₂, subst}
-use mathlib.Core.List.{List, [], _∷_, _++_}
+use mathlib.Core.Bool.{true}
+use mathlib.Core.List.{List, [], _++_}
 use native.Mathlib.Omega.{arith}
 use native.Mathlib.Decide.{decLe}
 use borrow.Author.Tests.{le-leb, lt-leb}
-use lib.ListN.{length, take, drop, getD, List·getD-eq-default}
-use lib.Seq.{take-at}
+use lib.ListN.{length, take, drop, getD, length-append, length-drop, List·getD-eq-default}
 use Rattle.lists.proofs.All.{All}
+use Rattle.lists.proofs.Pairwise.{Pairwise, pairwise-length, pairwise-more, pairwise-at}
 use Rattle.refusal.specs.Outcome.{Outcome, accepted, refused}
 use Rattle.refusal.proofs.Outcomes.{accepted≢refused}
 use Rattle.columns.specs.Columns.{Row}
+use Rattle.record.specs.Sound.{sound}
 use Rattle.record.specs.Section.{sectionBytes, written}
-use Rattle.table.proofs.Bytes.{Storable, length-sectionBytes}
+use Rattle.table.proofs.Bytes.{Storable, used-written}
 use Rattle.table.proofs.Accepted.{written-left}
 use Rattle.checkpoint.specs.Saved.{savedTable, groupCount}
 use Rattle.checkpoint.specs.Calls.{mostFileGroups, saveGrounds, saveOutcome, loadOutcome, loadLeaves}
+use Rattle.checkpoint.proofs.Records.{length-records}
 use Rattle.checkpoint.proofs.Saving.{save-only}
 use Rattle.checkpoint.proofs.Loading.{load-2, load-only, load-untouched}
 use Rattle.checkpoint.proofs.Reloading.{saved-fields, saved-outcome, saved-left}
@@ -35,29 +38,7 @@ pub record FileHolds (f : List ℕ) (rows : List Row) : Type 0 where
 
 -- each file of a shelf is that of a table that held the rows with its number
 abbrev pub ShelfHolds : List (List ℕ) → List (List Row) → Type 0
-ShelfHolds [] [] = Unit {0}
-ShelfHolds [] (r ∷ rs) = ⊥
-ShelfHolds (f ∷ fs) [] = ⊥
-ShelfHolds (f ∷ fs) (r ∷ rs) = FileHolds f r × ShelfHolds fs rs
-
-shelf-add : (fs : List (List ℕ)) (rs : List (List Row)) (f : List ℕ) (r : List Row) → ShelfHolds fs rs → FileHolds f r → ShelfHolds (fs ++ f ∷ []) (rs ++ r ∷ [])
-shelf-add [] [] f r h x = (x, tt)
-shelf-add [] (r′ ∷ rs) f r h x = absurd h
-shelf-add (f′ ∷ fs) [] f r h x = absurd h
-shelf-add (f′ ∷ fs) (r′ ∷ rs) f r h x = (h .0, shelf-add fs rs f r (h .1) x)
-
-pub shelf-length : (fs : List (List ℕ)) (rs : List (List Row)) → ShelfHolds fs rs → length fs ≡ length rs
-shelf-length [] [] h = refl
-shelf-length [] (r ∷ rs) h = absurd h
-shelf-length (f ∷ fs) [] h = absurd h
-shelf-length (f ∷ fs) (r ∷ rs) h = ap suc (shelf-length fs rs (h .1))
-
-shelf-at : (fs : List (List ℕ)) (rs : List (List Row)) (n : ℕ) → ShelfHolds fs rs → n < length rs → FileHolds (getD fs n []) (getD rs n [])
-shelf-at [] [] n h l = absurd (omega arith)
-shelf-at [] (r ∷ rs) n h l = absurd h
-shelf-at (f ∷ fs) [] n h l = absurd h
-shelf-at (f ∷ fs) (r ∷ rs) zero h l = h .0
-shelf-at (f ∷ fs) (r ∷ rs) (suc n) h l = shelf-at fs rs n (h .1) (omega arith)
+ShelfHolds fs rs = Pairwise FileHolds fs rs
 
 -- ---- a save
 module _ (initial : List ℕ) (t : Store) (rows : List Row) (h : HoldsRows initial t rows) (outLen : ℕ) where
@@ -73,7 +54,7 @@ module _ (initial : List ℕ) (t : Store) (rows : List Row) (h : HoldsRows initi
     where
       go : (o : Outcome ℕ) → saveOutcome (t .buffer) (t .groups) outLen ≡ o → ShelfHolds (shelved o (savedTable (t .buffer) (t .groups)) fs) (shelved o rows rs)
       go (accepted n) e =
-          shelf-add fs rs (savedTable (t .buffer) (t .groups)) rows x
+          pairwise-more FileHolds fs rs (savedTable (t .buffer) (t .groups)) rows x
           (record { initial = initial; store = t; holds = h; few = save-only (t .buffer) (t .groups) outLen e .few-groups; is-file = refl })
       go (refused n) e = x
 
@@ -82,10 +63,10 @@ module _ (fs : List (List ℕ)) (rs : List (List Row)) (x : ShelfHolds fs rs) (n
   here : Dec (length rs ≤ n) → loadOutcome (fileOn fs n) tableLen ≡ loadRowsOutcome tableLen rs n
   unfolding loadRowsGrounds
   here (yes p) =
-      let l = shelf-length fs rs x in
+      let l = pairwise-length FileHolds fs rs x in
       rw (le-leb (length rs) n p) (ap (λ (f : List ℕ). loadOutcome f tableLen) (List·getD-eq-default fs [] {n = n} (omega arith)) ∙ load-2 [] tableLen (omega arith))
   here (no p) =
-      let a = shelf-at fs rs n x (omega arith) in
+      let a = pairwise-at FileHolds fs rs n [] [] x (omega arith) in
       let s = a .store in
       rw (lt-leb (length rs) n (omega arith), a .is-file)
       (saved-outcome (s .buffer) (s .groups) (sound-is (a .initial) s (getD rs n []) (a .holds)) (a .few) tableLen
@@ -93,6 +74,27 @@ module _ (fs : List (List ℕ)) (rs : List (List Row)) (x : ShelfHolds fs rs) (n
 
   pub load-outcome : loadOutcome (fileOn fs n) tableLen ≡ loadRowsOutcome tableLen rs n
   load-outcome = here (decLe (length rs) n)
+
+-- what an accepted load of the file of table s leaves of the bytes b
+pub record Loaded (s : Store) (b after : List ℕ) (n : ℕ) : Type 0 where
+  pub count : n ≡ s .groups
+  pub left : after ≡ take (64 * s .groups) (s .buffer) ++ drop (64 * s .groups) b
+  pub same-length : length after ≡ length b
+
+pub loaded-is : (s : Store) → sound (s .buffer) (s .groups) ≡ true → s .groups ≤ mostFileGroups → (g b : List ℕ) (n : ℕ) → g ≡ savedTable (s .buffer) (s .groups)
+    → loadOutcome g (length b) ≡ accepted n → Loaded s b (loadLeaves g b) n
+loaded-is s ok few g b n is e =
+    let o = load-only g (length b) e in
+    let count : n ≡ s .groups = sym (o .count-is) ∙ ap groupCount is ∙ saved-fields (s .buffer) (s .groups) ok few .first-is in
+    let room : 64 * s .groups ≤ length b = rw (sym count) (o .room) in
+    let left = ap (λ (f : List ℕ). loadLeaves f b) is ∙ saved-left (s .buffer) (s .groups) ok few b room in
+    record {
+      count = count;
+      left = left;
+      same-length =
+          ap length left ∙ length-append (take (64 * s .groups) (s .buffer)) (drop (64 * s .groups) b)
+          ∙ rw (length-records (s .buffer) (s .groups) ok, length-drop (64 * s .groups) b) (omega arith);
+    }
 
 -- the table u holds some rows; loading file n into it
 module _ (fs : List (List ℕ)) (rs : List (List Row)) (x : ShelfHolds fs rs) (n : ℕ) (b : List ℕ) (u : Store) (rows : List Row) (h : HoldsRows b u rows) where
@@ -103,15 +105,12 @@ module _ (fs : List (List ℕ)) (rs : List (List Row)) (x : ShelfHolds fs rs) (n
       let ts = canonical (getD rs n []) in
       let s = a .store in
       let y = a .holds in
-      let ok = sound-is (a .initial) s (getD rs n []) y in
-      let o = load-only (fileOn fs n) (length (u .buffer)) e in
-      let count : g ≡ s .groups = sym (o .count-is) ∙ ap groupCount (a .is-file) ∙ saved-fields (s .buffer) (s .groups) ok (a .few) .first-is in
-      let room : 64 * s .groups ≤ length (u .buffer) = rw (sym count) (o .room) in
+      let v = loaded-is s (sound-is (a .initial) s (getD rs n []) y) (a .few) (fileOn fs n) (u .buffer) g (a .is-file) e in
+      let room = load-only (fileOn fs n) (length (u .buffer)) e .room in
+      let count = v .count in
       let records-are : take (64 * s .groups) (s .buffer) ≡ sectionBytes ts =
-      ap₂ (λ (k : ℕ) (v : List ℕ). take (64 * k) v) (y .groups) (y .buffer) ∙ take-at (sectionBytes ts) (drop (64 * length ts) (a .initial)) (64 * length ts) (length-sectionBytes ts) in
-      let left : loadLeaves (fileOn fs n) (u .buffer) ≡ written ts (u .buffer) =
-      ap (λ (f : List ℕ). loadLeaves f (u .buffer)) (a .is-file) ∙ saved-left (s .buffer) (s .groups) ok (a .few) (u .buffer) room
-      ∙ ap₂ (λ (r : List ℕ) (k : ℕ). r ++ drop (64 * k) (u .buffer)) records-are (y .groups) in
+      ap₂ (λ (k : ℕ) (b : List ℕ). take (64 * k) b) (y .groups) (y .buffer) ∙ used-written ts (a .initial) in
+      let left : loadLeaves (fileOn fs n) (u .buffer) ≡ written ts (u .buffer) = v .left ∙ ap₂ (λ (r : List ℕ) (k : ℕ). r ++ drop (64 * k) (u .buffer)) records-are (y .groups) in
       let few = a .few in
       let groups = y .groups in
       let l = written-left (u .buffer) ts (subst (All Storable) (y .has-sections) (y .table .storable)) (canonical-rising (getD rs n [])) (omega arith) in
@@ -132,9 +131,9 @@ module _ (fs : List (List ℕ)) (rs : List (List Row)) (x : ShelfHolds fs rs) (n
     where
       found : {g : ℕ} → loadOutcome (fileOn fs n) (length (u .buffer)) ≡ accepted g → Dec (length rs ≤ n) → FileHolds (fileOn fs n) (getD rs n [])
       found e (yes p) =
-          let l = shelf-length fs rs x in
+          let l = pairwise-length FileHolds fs rs x in
           absurd (accepted≢refused (sym (load-2 [] (length (u .buffer)) (omega arith)) ∙ ap (λ (f : List ℕ). loadOutcome f (length (u .buffer))) (sym (List·getD-eq-default fs [] {n = n} (omega arith))) ∙ e))
-      found e (no p) = shelf-at fs rs n x (omega arith)
+      found e (no p) = pairwise-at FileHolds fs rs n [] [] x (omega arith)
 
       go : (o : Outcome ℕ) → loadOutcome (fileOn fs n) (length (u .buffer)) ≡ o
           → HoldsRows (replaced o b (written (canonical rows) b)) (after o (loadLeaves (fileOn fs n) (u .buffer)) (u .groups)) (replaced o rows (getD rs n []))

@@ -6,6 +6,7 @@ use native.Mathlib.Omega.{arith}
 use native.Mathlib.Decide.{decLe}
 use lib.ListN.{length, getD}
 use Rattle.level.specs.Double.{magnitude}
+use Rattle.level.proofs.Finest.{finest-whole, finest-most, finest-of-zeros, finest-of-others}
 use Rattle.history.specs.Rows.{largest}
 use Rattle.history.specs.Terms.{Terms}
 use Rattle.history.proofs.Distinct.{once}
@@ -35,4 +36,8 @@ terms = record {
   numbers-once = once;
   largest-one = one;
   largest-all = all;
+  finest-whole = finest-whole;
+  finest-most = finest-most;
+  finest-of-zeros = finest-of-zeros;
+  finest-of-others = finest-of-others;
 }

@@ -16,9 +16,9 @@ use Rattle.checkpoint.specs.Calls.{mostFileGroups}
 use Rattle.lists.specs.Lists.{anyOf}
 use Rattle.history.specs.Rows.{sectionBits, sectionNumbers}
 
--- what is asked of a table: the sum, the mill figure or the finished line of a section, or the table's totals
+-- what is asked of a table: the sum, the mill figure or the finished line of a section, whether its kept value is known to be exact, or the table's totals
 pub data Question : Type 0 where
-  sum figure line : (key : ℕ) → Question
+  sum figure line exactness : (key : ℕ) → Question
   totals : Question
 
 -- a call on tables named by numbers: an add to table i of two columns with values of some kind, of which the keys hold bytes as every slice does, with the

@@ -4,12 +4,13 @@ use mathlib.Core.Path.{_≡_, refl}
 use mathlib.Core.Bool.{true, false}
 use mathlib.Core.List.{List, [], _∷_, _++_, map}
 use lib.Dec.{T}
-use lib.ListN.{replicate}
+use lib.ListN.{replicate, take, drop}
 use lib.Pow.{areBytes}
 use Rattle.codec.specs.Bytes.{number, bytes, numberAt}
 use Rattle.codec.specs.Cells.{cells, image}
 use Rattle.refusal.specs.Outcome.{accepted, refused, isRefusal}
 use Rattle.level.specs.Level.{topFrom, top, given, contribution, topOf, total}
+use Rattle.level.specs.Finest.{finestOf}
 use Rattle.columns.specs.declared.Kind.the-variants.{Double}
 use Rattle.columns.specs.Columns.{width, Row, rowsFrom, columnsFit, rowsOf}
 use Rattle.record.specs.Section.{Section, sections, sectionBytes, written, find, kept, sectionAtTop}
@@ -31,9 +32,10 @@ use Rattle.checkpoint.specs.Calls.{saveGrounds, saveOutcome, loadGrounds, loadO
 use Rattle.lists.specs.Lists.{anyOf}
 use Rattle.history.specs.Rows.{sectionBits, insertKey, sectionNumbers, rowsTotals}
 use Rattle.history.specs.Canonical.{canonical}
-use Rattle.history.specs.Calls.{sum, figure, line, totals, Call, add, merge, ask, save, load, tooManyRows, tooManyKeys, addRowsGrounds, mergeRowsGrounds, saveRowsGrounds, loadRowsGrounds, noRows, stepRows, ledgerAfter}
-use Rattle.history.specs.Run.{Store, State, noGroups, groupsAre, sumIs, figureIs, lineIs, totalsAre, lengthIs, step, stateAfter, askTable, answer, answers, refuses}
-use Rattle.history.specs.Demand3.{History}
+use Rattle.history.specs.Calls.{sum, figure, line, exactness, totals, Call, add, merge, ask, save, load, tooManyRows, tooManyKeys, addRowsGrounds, mergeRowsGrounds, saveRowsGrounds, loadRowsGrounds, noRows, stepRows, ledgerAfter}
+use Rattle.history.specs.Run.{Store, State, noGroups, groupsAre, sumIs, figureIs, lineIs, exactnessIs, totalsAre, lengthIs, step, stateAfter, fileOn, askTable, answer, answers, refuses}
+use Rattle.history.specs.Demand3.{History, sectionsIn}
+use Rattle.history.specs.Older.{olderFile, ordinary, load-older, stepOlder, stateAfterOlder, answerOlder, answersOlder, OlderHistory, olderTable, olderAnswers, stepOrigins, originsAfter, fromOlder}
 use Rattle.history.specs.Reloaded.{finalState, saving, reloading, SavedAndLoaded, named, uses, exchange, Renamed, RenamedCalls}
 
 -- a buffer of 128 bytes: room for two sections
@@ -58,7 +60,7 @@ exampleRows = record { key = 7; bits = 0x3FF0000000000000 } ∷ record { key = 3
 
 -- what a list of calls leaves in table 0
 leftInTable0 : List Call → Store
-unfolding stateAfter step answers answer askTable addGrounds columnGrounds mergeGrounds saveOutcome saveGrounds savedTable trailerOf loadOutcome loadGrounds loadLeaves wrongLayout sound rising cells soundRecords soundRecord soundTotal isZero columnsFit image bytes anyOf rowsOf rowsFrom number numberAt added merged absorb combine levelOf ofRow top topFrom given contribution encode decode
+unfolding stateAfter step answers answer askTable addGrounds columnGrounds mergeGrounds saveOutcome saveGrounds savedTable trailerOf loadOutcome loadGrounds loadLeaves wrongLayout sound rising cells soundRecords soundRecord soundTotal isZero columnsFit image bytes anyOf rowsOf rowsFrom number numberAt added merged absorb combine levelOf ofRow top topFrom given contribution finestOf encode decode
 leftInTable0 cs = stateAfter emptyTables cs .tables 0
 
 -- the same rows in one add, in another order, in two adds, merged from another table, merged the other way round, with a refused add between, loaded from the
@@ -178,18 +180,18 @@ answers-on = refl
 -- one call of each kind that gets a table with its group count
 eachCall : List Call
 unfolding image bytes
-eachCall = addTo 0 (7 ∷ []) (1 ∷ []) tt ∷ merge 0 1 tt ∷ ask 0 (sum 7) ∷ ask 0 (figure 7) ∷ ask 0 (line 7) ∷ ask 0 totals ∷ save 0 80 ∷ []
+eachCall = addTo 0 (7 ∷ []) (1 ∷ []) tt ∷ merge 0 1 tt ∷ ask 0 (sum 7) ∷ ask 0 (figure 7) ∷ ask 0 (line 7) ∷ ask 0 (exactness 7) ∷ ask 0 totals ∷ save 0 80 ∷ []
 
 -- every table claims a record and has none
 unsoundTables : State
 unsoundTables = record { tables = λ i. record { buffer = []; groups = 1 }; shelf = [] }
 
 -- each is refused with 7 there, and with no other number
-refused-with-7 : map (λ (c : Call). refuses 7 (answer unsoundTables c)) eachCall ≡ replicate 7 true
+refused-with-7 : map (λ (c : Call). refuses 7 (answer unsoundTables c)) eachCall ≡ replicate 8 true
 unfolding eachCall unsoundTables answer askTable sound isRefusal addGrounds columnGrounds mergeGrounds saveOutcome saveGrounds
 refused-with-7 = refl
 
-not-with-8 : map (λ (c : Call). refuses 8 (answer unsoundTables c)) eachCall ≡ replicate 7 false
+not-with-8 : map (λ (c : Call). refuses 8 (answer unsoundTables c)) eachCall ≡ replicate 8 false
 unfolding eachCall unsoundTables answer askTable sound isRefusal addGrounds columnGrounds mergeGrounds saveOutcome saveGrounds
 not-with-8 = refl
 
@@ -215,3 +217,44 @@ finished : answers emptyTables threeQuestions
     ≡ groupsAre (accepted 1) ∷ sumIs (accepted (record { sum = ofBits binary64 0x4008000000000000; side = Equal })) ∷ figureIs (accepted (pos 300)) ∷ lineIs (refused 13) ∷ []
 unfolding threeQuestions leftInTable0 find kept tooLarge nearestDouble side millFigure beyond ofBits toBits round
 finished = refl
+
+-- 2^60 and 2^-34 in section 7, 2^60 and 2^-35 in section 8: the lowest kept level counts in units of 2^-34
+exactnessAsked : List Call
+unfolding image bytes
+exactnessAsked =
+    addTo 0 (7 ∷ 8 ∷ 7 ∷ 8 ∷ []) (0x43B0000000000000 ∷ 0x43B0000000000000 ∷ 0x3DD0000000000000 ∷ 0x3DC0000000000000 ∷ []) tt
+    ∷ ask 0 (exactness 7) ∷ ask 0 (exactness 8) ∷ ask 0 (exactness 9) ∷ []
+
+-- nothing of section 7 was dropped, of section 8 it is not known, and section 9 is absent
+exactness-told : answers emptyTables exactnessAsked ≡ groupsAre (accepted 2) ∷ exactnessIs (accepted true) ∷ exactnessIs (accepted false) ∷ exactnessIs (refused 13) ∷ []
+unfolding exactnessAsked leftInTable0 find
+exactness-told = refl
+
+-- 1 in section 7 of table 0, whose file is loaded into table 1 as an older version wrote it; 0.5 in section 7 and 1 in section 9 are added there
+olderHalf : OlderHistory
+unfolding image bytes
+olderHalf = record {
+  initial = λ i. lentBuffer;
+  calls = ordinary (addTo 0 (7 ∷ []) (0x3FF0000000000000 ∷ []) tt) ∷ ordinary (save 0 80) ∷ load-older 1 0
+      ∷ ordinary (addTo 1 (7 ∷ 9 ∷ []) (0x3FE0000000000000 ∷ 0x3FF0000000000000 ∷ []) tt) ∷ ordinary (ask 1 (exactness 7)) ∷ ordinary (ask 1 (exactness 9)) ∷ [];
+}
+
+-- of section 7 it is not known, section 9 is exact
+older-half-told : olderAnswers olderHalf
+    ≡ groupsAre (accepted 1) ∷ lengthIs (accepted 80) ∷ groupsAre (accepted 1) ∷ groupsAre (accepted 2) ∷ exactnessIs (accepted false) ∷ exactnessIs (accepted true) ∷ []
+unfolding olderHalf leftInTable0 answersOlder answerOlder stepOlder find
+older-half-told = refl
+
+-- the older file brought section 7, and not section 9; their finest powers are 0 and 1074
+older-brought : (map (fromOlder olderHalf 1) (7 ∷ 9 ∷ 5 ∷ []) ≡ true ∷ false ∷ false ∷ []) × (map (λ (t : Section). t .finest) (sectionsIn (olderTable olderHalf 1)) ≡ 0 ∷ 1074 ∷ [])
+unfolding olderHalf leftInTable0 stateAfterOlder stepOlder originsAfter stepOrigins ledgerAfter stepRows tooManyRows sectionNumbers addRowsGrounds insertKey sectionBits tooManyKeys saveRowsGrounds loadRowsGrounds
+older-brought = (refl, refl)
+
+-- the file of table 0, and as an older version wrote it: zeros from byte 12 on, and all other bytes the same
+savedHalf : List ℕ
+unfolding olderHalf leftInTable0 stateAfterOlder stepOlder
+savedHalf = fileOn (stateAfterOlder emptyTables (olderHalf .calls) .shelf) 0
+
+older-zeros : (take 4 (drop 12 savedHalf) ≡ 0x32 ∷ 0x04 ∷ 0 ∷ 0 ∷ []) × (olderFile savedHalf ≡ take 12 savedHalf ++ 0 ∷ 0 ∷ 0 ∷ 0 ∷ drop 16 savedHalf)
+unfolding savedHalf
+older-zeros = (refl, refl)

@@ -7,6 +7,7 @@ use mathlib.Core.Option.{none, some}
 use lib.ListN.{length, take}
 use lib.IntN.{_-ℤ_, natAbs}
 use Rattle.level.specs.Level.{exactSum}
+use Rattle.level.specs.Finest.{finestOf}
 use Rattle.columns.specs.Columns.{Row}
 use Rattle.record.specs.Sound.{sound}
 use Rattle.record.specs.Section.{Section, sections, written, find, kept}
@@ -14,9 +15,10 @@ use Rattle.totals.specs.Totals.{tableTotals}
 use Rattle.lists.specs.Lists.{anyOf}
 use Rattle.history.specs.Rows.{SameRows, sectionBits, rowsTotals, largest}
 use Rattle.history.specs.Canonical.{canonical}
-use Rattle.history.specs.Calls.{Question, Call, noRows, ledgerAfter}
+use Rattle.refusal.specs.Outcome.{accepted}
+use Rattle.history.specs.Calls.{Question, exactness, Call, noRows, ledgerAfter}
 use Rattle.history.specs.Beneath.{beneathAfter}
-use Rattle.history.specs.Run.{Store, State, noGroups, stateAfter, askTable, askRows, answers, answersRows, refuses}
+use Rattle.history.specs.Run.{Store, State, noGroups, stateAfter, exactnessIs, askTable, askRows, answers, answersRows, refuses}
 
 -- a way of working: the bytes in each table's buffer at the start, and the calls
 pub record History : Type 0 where
@@ -62,7 +64,7 @@ pub record Demand3 : Type 0 where
   pub answered : (h : History) → answers (empty h) (h .calls) ≡ answersRows (lengths h) noRows (h .calls)
   pub never-7 : (h : History) → anyOf (refuses 7) (answers (empty h) (h .calls)) ≡ false
   -- tables with the same rows, after any two ways of working, have the same group count, used bytes and answers to every question: sums, mill figures,
-  -- finished lines and totals
+  -- finished lines, totals and whether a kept value is known to be exact
   pub same-groups : (h h′ : History) (i j : ℕ) → SameRows (rows h i) (rows h′ j) → table h i .groups ≡ table h′ j .groups
   pub same-bytes : (h h′ : History) (i j : ℕ) → SameRows (rows h i) (rows h′ j) → used (table h i) ≡ used (table h′ j)
   pub same-answer : (h h′ : History) (i j : ℕ) (q : Question) → SameRows (rows h i) (rows h′ j) → askTable (table h i) q ≡ askTable (table h′ j) q
@@ -72,9 +74,13 @@ pub record Demand3 : Type 0 where
   pub counted : (h : History) (i : ℕ) → tableTotals (sectionsIn (table h i)) ≡ rowsTotals (rows h i)
   -- a section without a row has no record
   pub absent : (h : History) (i k : ℕ) → length (sectionBits k (rows h i)) ≡ 0 → find k (sectionsIn (table h i)) ≡ none
-  -- a section with a row has one: its count is the number of its rows, and its kept value lies within
+  -- a section with a row has one: its count is the number of its rows, its finest power is theirs, and its kept value lies within
   -- (the number of its rows) × (its largest row in size) × 2^-80 of their exact sum
   pub present : (h : History) (i k : ℕ) → 0 < length (sectionBits k (rows h i))
       → (s : Section) × (find k (sectionsIn (table h i)) ≡ some s)
       × (s .count ≡ length (sectionBits k (rows h i)))
+      × (s .finest ≡ finestOf (sectionBits k (rows h i)))
       × (natAbs (kept s -ℤ exactSum (sectionBits k (rows h i))) * 2 ^ 80 ≤ length (sectionBits k (rows h i)) * largest (sectionBits k (rows h i)))
+  -- a section that is answered exact has a kept value equal to the exact sum of its rows
+  pub exact-kept : (h : History) (i k : ℕ) → askTable (table h i) (exactness k) ≡ exactnessIs (accepted true)
+      → (s : Section) × (find k (sectionsIn (table h i)) ≡ some s) × (kept s ≡ exactSum (sectionBits k (rows h i)))

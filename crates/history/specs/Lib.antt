@@ -6,5 +6,6 @@ pub mod Beneath
 pub mod Run
 pub mod Demand3
 pub mod Reloaded
+pub mod Older
 pub mod Terms
 pub mod Cases

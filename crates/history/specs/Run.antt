@@ -7,6 +7,7 @@ use lib.IntN.{ℤ}
 use Rattle.refusal.specs.Outcome.{Outcome, accepted, refused, isRefusal}
 use Rattle.finish.specs.declared.FinishedLine.{FinishedLine}
 use Rattle.finish.specs.Finish.{RoundedSum, sumOf, figureOf, lineOf, sumOutcome, figureOutcome, lineOutcome}
+use Rattle.finish.specs.Exact.{exactnessOf, exactnessOutcome}
 use Rattle.columns.specs.declared.Kind.{Kind}
 use Rattle.columns.specs.Columns.{Row}
 use Rattle.table.specs.Calls.{addOutcome, addLeaves, mergeOutcome, mergeLeaves}
@@ -16,7 +17,7 @@ use Rattle.checkpoint.specs.Saved.{savedTable}
 use Rattle.checkpoint.specs.Calls.{saveOutcome, loadOutcome, loadLeaves}
 use Rattle.history.specs.Rows.{sectionBits, rowsTotals}
 use Rattle.history.specs.Canonical.{sectionIf}
-use Rattle.history.specs.Calls.{Question, sum, figure, line, totals, Call, add, merge, ask, save, load, Ledger, update, shelved, addRowsOutcome, mergeRowsOutcome, saveRowsOutcome, loadRowsOutcome, stepRows}
+use Rattle.history.specs.Calls.{Question, sum, figure, line, exactness, totals, Call, add, merge, ask, save, load, Ledger, update, shelved, addRowsOutcome, mergeRowsOutcome, saveRowsOutcome, loadRowsOutcome, stepRows}
 
 -- a table as it is lent: the bytes of its buffer, and its group count
 pub record Store : Type 0 where
@@ -77,12 +78,14 @@ stateAfter s (c ∷ cs) = stateAfter (step s c) cs
 
 -- ---- answers
 
--- what a call answers: the new group count, a sum with its side, a mill figure, a finished line, a table's totals or the length of a file
+-- what a call answers: the new group count, a sum with its side, a mill figure, a finished line, whether a kept value is known to be exact, a table's totals or
+-- the length of a file
 pub data Answer : Type 0 where
   groupsAre : Outcome ℕ → Answer
   sumIs : Outcome RoundedSum → Answer
   figureIs : Outcome ℤ → Answer
   lineIs : Outcome FinishedLine → Answer
+  exactnessIs : Outcome Bool → Answer
   totalsAre : Outcome TableTotals → Answer
   lengthIs : Outcome ℕ → Answer
 
@@ -91,6 +94,7 @@ unfoldable pub askTable : Store → Question → Answer
 askTable t (sum k) = sumIs (sumOutcome (t .buffer) (t .groups) k)
 askTable t (figure k) = figureIs (figureOutcome (t .buffer) (t .groups) k)
 askTable t (line k) = lineIs (lineOutcome (t .buffer) (t .groups) k)
+askTable t (exactness k) = exactnessIs (exactnessOutcome (t .buffer) (t .groups) k)
 askTable t totals = totalsAre (totalsOutcome (t .buffer) (t .groups))
 
 -- what it is to answer by the table's rows alone
@@ -98,6 +102,7 @@ unfoldable pub askRows : List Row → Question → Answer
 askRows rows (sum k) = sumIs (sumOf (sectionIf k (sectionBits k rows)))
 askRows rows (figure k) = figureIs (figureOf (sectionIf k (sectionBits k rows)))
 askRows rows (line k) = lineIs (lineOf (sectionIf k (sectionBits k rows)))
+askRows rows (exactness k) = exactnessIs (exactnessOf (sectionIf k (sectionBits k rows)))
 askRows rows totals = totalsAre (accepted (rowsTotals rows))
 
 -- what a call in this state answers
@@ -132,5 +137,6 @@ refuses n (groupsAre o) = isRefusal n o
 refuses n (sumIs o) = isRefusal n o
 refuses n (figureIs o) = isRefusal n o
 refuses n (lineIs o) = isRefusal n o
+refuses n (exactnessIs o) = isRefusal n o
 refuses n (totalsAre o) = isRefusal n o
 refuses n (lengthIs o) = isRefusal n o

@@ -6,7 +6,7 @@ use native.Mathlib.Decide.{decLe}
 use native.Mathlib.Omega.{arith}
 use lib.IntN.{ℤ, pos, negsuc, natAbs, _+ℤ_, _-ℤ_, _*ℤ_, +ℤ-idl, +ℤ-idr}
 use lib.Pow.{pow-pos, pow-mono}
-use Rattle.integers.proofs.Laws.{+ℤ-passing, size-zero}
+use Rattle.integers.proofs.Laws.{+ℤ-passing}
 use Rattle.integers.proofs.Naturals.{pow-sum}
 use Rattle.level.specs.Double.{negative, exponentField, significand, magnitude, value}
 use Rattle.level.specs.Level.{unit, left, given, top, contribution, below, levelSum}
@@ -29,13 +29,6 @@ after-half zero z zero = left-half z 0
 after-half zero z (suc n) = rw (zero-sub (suc n)) (left-half z 0)
 after-half (suc s) z zero = rw sub-zero (left-half z (suc s))
 after-half (suc s) z (suc n) = rw (suc-sub-suc s n) (after-half s (left z (suc s)) n)
-
--- so nothing is left after level 0
-pub after-none : (t : ℕ) (z : ℤ) (n : ℕ) → t ≤ n → leftAfter t z (suc n) ≡ pos 0
-after-none t z n h =
-    let e : 40 * (t - n) ≡ 0 = omega arith in
-    let half : natAbs (leftAfter t z (suc n)) * 2 ≤ 1 = rw e at (after-half t z n) in
-    size-zero (leftAfter t z (suc n)) (omega arith)
 
 after-step : (t : ℕ) (z : ℤ) (n : ℕ) → leftAfter t z (suc n) ≡ leftAfter t z n -ℤ givenBelow t z n *ℤ pos (unit (t - n))
 unfolding leftAfter givenBelow
@@ -92,6 +85,7 @@ half-multiple-zero (pos n) (suc q) w h e l = absurd (omega arith)
 half-multiple-zero (negsuc n) zero w h e l = absurd (omega arith)
 half-multiple-zero (negsuc n) (suc q) w h e l = absurd (omega arith)
 
+-- nothing is left of a whole number of 2^e once a level's unit is 2^e or less; with e = 0, of any number after level 0
 pub after-exact : (t : ℕ) (z : ℤ) (n e q : ℕ) → natAbs z ≡ q * 2 ^ e → 40 * (t - n) ≤ e → leftAfter t z (suc n) ≡ pos 0
 after-exact t z n e q h l =
     let w = after-whole t z (suc n) e q h in

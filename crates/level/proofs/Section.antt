@@ -3,18 +3,21 @@
 use mathlib.Core.Path.{_≡_, refl, sym, ap, ap₂, _∙_}
 use mathlib.Core.Bool.{Bool, true, false, cond}
 use mathlib.Core.List.{List, [], _∷_, _++_}
-use Prim.Native.Nat.{ℕ, zero, suc, _-_, _*_, _≤_, _<_, max, zero-le}
-use native.Mathlib.Nat.{le-trans, le-max-left, le-max-right}
+use Prim.Native.Nat.{ℕ, zero, suc, _-_, _*_, _/_, _%_, _^_, _≤_, _<_, max, zero-le}
+use native.Mathlib.Nat.{le-refl, le-trans, div-add-mod', le-max-left, le-max-right}
 use native.Mathlib.Omega.{arith}
 use lib.Dec.{leb}
 use lib.ListN.{length}
 use lib.IntN.{ℤ, pos, natAbs, _+ℤ_, _-ℤ_, _*ℤ_, +ℤ-idl, +ℤ-assoc, +ℤ-comm, zero-*ℤ, +ℤ-negℤ-cancel}
-use Rattle.level.specs.Double.{value}
+use Rattle.level.specs.Double.{negative, magnitude, value}
 use Rattle.level.specs.Level.{levelBound, unit, top, contribution, below, levelSum, topOf, total, exactSum}
+use Rattle.level.specs.Finest.{finestOf}
 use Rattle.integers.proofs.Laws.{+ℤ-*ℤ, -ℤ-interchange, natAbs-+ℤ}
 use Rattle.integers.proofs.Diff.{+ℤ-interchange}
 use Rattle.level.proofs.Top.{contribution-above, contribution-bound}
-use Rattle.level.proofs.Kept.{leftAfter, after-half, after-none, levelSum-row, levelSum-all}
+use Rattle.level.proofs.Kept.{leftAfter, after-half, after-exact, levelSum-row, levelSum-all}
+use Rattle.level.proofs.Finest.{Multiples, multiples-upto}
+use Rattle.level.proofs.Signs.{natAbs-signed}
 
 -- ---- tops and totals of rows
 pub topOf-append : (bs cs : List ℕ) → topOf (bs ++ cs) ≡ max (topOf bs) (topOf cs)
@@ -85,10 +88,22 @@ section-near (b ∷ bs) t n h =
     let sizes = natAbs-+ℤ (value b -ℤ v) (exactSum bs -ℤ w) in
     rw (levelSum-add (contribution b) (total bs) t (suc n), -ℤ-interchange (value b) (exactSum bs) v w) (omega arith)
 
--- where level 0 is among the levels, nothing is lost
-pub section-whole : (bs : List ℕ) (t n : ℕ) → topOf bs ≤ t → t ≤ n → levelSum (total bs) t (suc n) ≡ exactSum bs
+-- ---- where every row is a whole number of the last level's units, nothing is lost
+row-exact : (b t n : ℕ) → top b ≤ t → magnitude b % unit (t - n) ≡ 0 → levelSum (contribution b) t (suc n) ≡ value b
+row-exact b t n h m =
+    let e = 40 * (t - n) in
+    levelSum-all b t (suc n) h (after-exact t (value b) n e (magnitude b / 2 ^ e) (natAbs-signed (negative b) (magnitude b) ∙ whole (magnitude b) (unit (t - n)) m) (le-refl e))
+  where
+    whole : (x u : ℕ) → x % u ≡ 0 → x ≡ x / u * u
+    whole x u m = omega (arith, div-add-mod' x u)
+
+multiples-exact : (bs : List ℕ) (t n : ℕ) → topOf bs ≤ t → Multiples (40 * (t - n)) bs → levelSum (total bs) t (suc n) ≡ exactSum bs
 unfolding topOf total exactSum
-section-whole [] t n h l = levelSum-none t (suc n)
-section-whole (b ∷ bs) t n h l =
+multiples-exact [] t n h m = levelSum-none t (suc n)
+multiples-exact (b ∷ bs) t n h m =
     levelSum-add (contribution b) (total bs) t (suc n)
-    ∙ ap₂ _+ℤ_ (levelSum-all b t (suc n) (omega arith) (after-none t (value b) n l)) (section-whole bs t n (omega arith) l)
+    ∙ ap₂ _+ℤ_ (row-exact b t n (omega arith) (m .0)) (multiples-exact bs t n (omega arith) (m .1))
+
+-- the finest power tells whether they are; a unit of 1, as of level 0, needs none
+pub section-exact : (bs : List ℕ) (t n : ℕ) → topOf bs ≤ t → 40 * (t - n) ≤ finestOf bs → levelSum (total bs) t (suc n) ≡ exactSum bs
+section-exact bs t n h l = multiples-exact bs t n h (multiples-upto bs (40 * (t - n)) l)

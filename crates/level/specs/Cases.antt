@@ -5,6 +5,7 @@ use mathlib.Core.List.{List, [], _∷_, map}
 use Prim.Native.Nat.{ℕ, _^_}
 use lib.IntN.{ℤ, pos, negℤ}
 use Rattle.level.specs.Level.{top, contribution}
+use Rattle.level.specs.Finest.{finestOf, finest}
 use Rattle.level.specs.Contributions.{contributionsOf}
 use Rattle.level.specs.declared.Contributions.{Contributions}
 
@@ -35,3 +36,8 @@ expected =
 computed : map contributionsOf exampleRows ≡ expected
 unfolding exampleRows expected top contribution
 computed = refl
+
+-- the finest powers of the same rows, and of all of them together
+finest-computed : (map finest exampleRows ≡ 2098 ∷ 2098 ∷ 1079 ∷ 1079 ∷ 987 ∷ 1019 ∷ 1026 ∷ 2045 ∷ 2098 ∷ []) × (finestOf exampleRows ≡ 987)
+unfolding exampleRows finestOf
+finest-computed = (refl, refl)

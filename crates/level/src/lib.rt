@@ -12,6 +12,7 @@ ghost use Rattle.level.specs.ByField.{TopOfField, byFormula};
 ghost use Rattle.level.specs.Cut.{shiftOf, restOf, roundedUp, flippedIf};
 ghost use Rattle.level.specs.Carry.{carryBase, carryOf, residueOf, splitOf, totalOf};
 ghost use Rattle.level.specs.Contributions.{contributionsOf};
+ghost use Rattle.level.specs.Finest.{finest};
 
 mod tops;
 
@@ -139,6 +140,20 @@ fn scale(bits: u64) -> u64
 {
     let e = exponent_field(bits);
     if e == 0 { 0 } else { e - 1 }
+}
+
+// The finest power of a row that is zero; a finite row that is not zero has a smaller one.
+pub const HIGHEST_POWER: u32 = 2098;
+
+// The row's finest power: the place, counted from that of 2^-1074, of the lowest binary digit of its significand that is 1.
+pub fn finest_power(bits: u64) -> u32
+    ensures { λ r. ⌜ r ≡ finest bits ⌝ }
+{
+    let s = significand(bits);
+    if s == 0 {
+        return HIGHEST_POWER;
+    }
+    scale(bits) as u32 + u64::trailing_zeros(s)
 }
 
 // How many binary digits of the significand stand below the unit of the row's top, t.

@@ -16,7 +16,7 @@ use Rattle.lists.specs.Lists.{anyOf}
 
 -- a table of one record: its rows are n zeros
 abbrev zeroRows : ℕ → ℕ → List ℕ
-zeroRows k n = encode (record { key = k; count = n; top = 0; reserved = 0; high = nothing; middle = nothing; low = nothing })
+zeroRows k n = encode (record { key = k; count = n; top = 0; finest = 2098; high = nothing; middle = nothing; low = nothing })
 
 -- keys 1 and 2 in a 64-byte table, and in one of 128 bytes
 no-room : mergeOutcome (zeroRows 1 1) 1 (zeroRows 2 1) 1 ≡ refused 12

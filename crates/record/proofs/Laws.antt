@@ -29,7 +29,7 @@ length-encode r = simp (length-append, length-bytes)
 
 -- the seven stores of a record are one
 pub record-stored : (s : List ℕ) (at : ℕ) (r : Record) {a b c d e f g : List ℕ}
-    → a ≡ sets s at (bytes 4 (r .key)) → b ≡ sets a (at + 4) (bytes 4 (r .count)) → c ≡ sets b (at + 8) (bytes 4 (r .top)) → d ≡ sets c (at + 12) (bytes 4 (r .reserved))
+    → a ≡ sets s at (bytes 4 (r .key)) → b ≡ sets a (at + 4) (bytes 4 (r .count)) → c ≡ sets b (at + 8) (bytes 4 (r .top)) → d ≡ sets c (at + 12) (bytes 4 (r .finest))
     → e ≡ sets d (at + 16) (encodeTotal (r .high)) → f ≡ sets e (at + 32) (encodeTotal (r .middle)) → g ≡ sets f (at + 48) (encodeTotal (r .low))
     → g ≡ sets s at (encode r)
 unfolding encode
@@ -37,12 +37,12 @@ record-stored s at r p q u v x y z =
     let k1 = bytes 4 (r .key) in
     let k2 = k1 ++ bytes 4 (r .count) in
     let k3 = k2 ++ bytes 4 (r .top) in
-    let k4 = k3 ++ bytes 4 (r .reserved) in
+    let k4 = k3 ++ bytes 4 (r .finest) in
     let k5 = k4 ++ encodeTotal (r .high) in
     let k6 = k5 ++ encodeTotal (r .middle) in
     let q2 = sets-then s at 4 k1 (bytes 4 (r .count)) p (length-bytes 4 (r .key)) q in
     let q3 = sets-then s at 8 k2 (bytes 4 (r .top)) q2 (simp (length-append, length-bytes)) u in
-    let q4 = sets-then s at 12 k3 (bytes 4 (r .reserved)) q3 (simp (length-append, length-bytes)) v in
+    let q4 = sets-then s at 12 k3 (bytes 4 (r .finest)) q3 (simp (length-append, length-bytes)) v in
     let q5 = sets-then s at 16 k4 (encodeTotal (r .high)) q4 (simp (length-append, length-bytes)) x in
     let q6 = sets-then s at 32 k5 (encodeTotal (r .middle)) q5 (simp (length-append, length-bytes)) y in
     sets-then s at 48 k6 (encodeTotal (r .low)) q6 (simp (length-append, length-bytes)) z
@@ -63,7 +63,7 @@ pub record FieldsInRange (r : Record) : Type 0 where
   pub key : r .key < 2 ^ 32
   pub count : r .count < 2 ^ 32
   pub top : r .top < 2 ^ 32
-  pub reserved : r .reserved < 2 ^ 32
+  pub finest : r .finest < 2 ^ 32
   pub high : TotalInRange (r .high)
   pub middle : TotalInRange (r .middle)
   pub low : TotalInRange (r .low)
@@ -83,7 +83,7 @@ decode-encode r h =
       numberAt-bytes 4 (r .key) (h .key),
       numberAt-bytes 4 (r .count) (h .count),
       numberAt-bytes 4 (r .top) (h .top),
-      numberAt-bytes 4 (r .reserved) (h .reserved),
+      numberAt-bytes 4 (r .finest) (h .finest),
       numberAt-bytes 8 (r .high .residue) (h .high .residue),
       carry-read-back (r .high .carry) (h .high .carry),
       numberAt-bytes 8 (r .middle .residue) (h .middle .residue),

@@ -8,6 +8,7 @@ use lib.Dec.{T, ltb, leb, eqb, ltb→lt, leb→le, eqb→eq}
 use lib.Ieee.Fits.{and-l, and-r}
 use lib.IntN.{ℤ, pos, natAbs, _+ℤ_, _*ℤ_}
 use Rattle.level.specs.Level.{levelBound}
+use Rattle.level.specs.Finest.{highestPower}
 use Rattle.integers.proofs.Diff.{ints, byParts}
 use Rattle.integers.proofs.Laws.{size-zero}
 use Rattle.level.specs.declared.SplitTotal.{SplitTotal}
@@ -25,7 +26,7 @@ empty-total h e = rw (e .0, e .1)
 pub record SoundParts (r : Record) : Type 0 where
   pub count : 1 ≤ r .count
   pub top : r .top ≤ 52
-  pub reserved : r .reserved ≡ 0
+  pub finest : r .finest ≤ highestPower
   pub high : T (soundTotal (r .count) (r .high))
   pub middle : T (soundTotal (r .count) (r .middle))
   pub low : T (soundTotal (r .count) (r .low))
@@ -51,7 +52,7 @@ unfolding soundRecord
 sound-record-parts r h =
     let a = leb 1 (r .count) in
     let b = leb (r .top) 52 in
-    let c = eqb (r .reserved) 0 in
+    let c = leb (r .finest) highestPower in
     let d = soundTotal (r .count) (r .high) in
     let e = soundTotal (r .count) (r .middle) in
     let f = soundTotal (r .count) (r .low) in
@@ -66,7 +67,7 @@ sound-record-parts r h =
     record {
       count = leb→le 1 (r .count) (and-l a b h2);
       top = leb→le (r .top) 52 (and-r a b h2);
-      reserved = eqb→eq (r .reserved) 0 (and-r (a && b) c h3);
+      finest = leb→le (r .finest) highestPower (and-r (a && b) c h3);
       high = and-r (a && b && c) d h4;
       middle = and-r (a && b && c && d) e h5;
       low = and-r (a && b && c && d && e) f h6;

@@ -21,7 +21,7 @@ nothing = record { residue = 0; carry = pos 0 }
 
 -- section 7 with two rows at top 26: totals -5, 3 and 0
 abbrev sampleRecord : Record
-sampleRecord = record { key = 7; count = 2; top = 26; reserved = 0; high = record { residue = 2 ^ 50 - 5; carry = negsuc 0 }; middle = record { residue = 3; carry = pos 0 }; low = nothing }
+sampleRecord = record { key = 7; count = 2; top = 26; finest = 1000; high = record { residue = 2 ^ 50 - 5; carry = negsuc 0 }; middle = record { residue = 3; carry = pos 0 }; low = nothing }
 
 sample-totals : map totalOf (sampleRecord .high ∷ sampleRecord .middle ∷ sampleRecord .low ∷ []) ≡ negsuc 4 ∷ pos 3 ∷ pos 0 ∷ []
 sample-totals = refl

@@ -18,7 +18,7 @@ recordAt s at = record {
   key = numberAt 4 s at;
   count = numberAt 4 s (at + 4);
   top = numberAt 4 s (at + 8);
-  reserved = numberAt 4 s (at + 12);
+  finest = numberAt 4 s (at + 12);
   high = totalAt s (at + 16);
   middle = totalAt s (at + 32);
   low = totalAt s (at + 48);
@@ -35,7 +35,7 @@ encodeTotal t = bytes 8 (t .residue) ++ bytes 8 (ofZ w64 (t .carry))
 -- the 64 bytes of a record
 unfoldable pub encode : Record → List ℕ
 encode r =
-    bytes 4 (r .key) ++ bytes 4 (r .count) ++ bytes 4 (r .top) ++ bytes 4 (r .reserved)
+    bytes 4 (r .key) ++ bytes 4 (r .count) ++ bytes 4 (r .top) ++ bytes 4 (r .finest)
     ++ encodeTotal (r .high) ++ encodeTotal (r .middle) ++ encodeTotal (r .low)
 
 -- the first g records

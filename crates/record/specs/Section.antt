@@ -1,4 +1,4 @@
--- What a record means: a section's row count, its top and the totals of its three levels as whole numbers.
+-- What a record means: a section's row count, its top, its finest power and the totals of its three levels as whole numbers.
 use Prim.Native.Nat.{ℕ, _-_, _*_}
 use mathlib.Core.Bool.{cond}
 use mathlib.Core.List.{List, [], _∷_, _++_, map}
@@ -8,6 +8,7 @@ use lib.IntN.{ℤ, pos, _+ℤ_, _*ℤ_}
 use lib.ListN.{length, drop}
 use Rattle.codec.specs.Cells.{image}
 use Rattle.level.specs.Level.{unit, below, topOf, total}
+use Rattle.level.specs.Finest.{finestOf}
 use Rattle.level.specs.Carry.{splitOf, totalOf}
 use Rattle.record.specs.declared.Record.{Record}
 use Rattle.record.specs.Layout.{records, encode}
@@ -17,6 +18,7 @@ pub record Section : Type 0 where
   pub key : ℕ
   pub count : ℕ
   pub top : ℕ
+  pub finest : ℕ
   pub high : ℤ
   pub middle : ℤ
   pub low : ℤ
@@ -27,6 +29,7 @@ meaning r = record {
   key = r .key;
   count = r .count;
   top = r .top;
+  finest = r .finest;
   high = totalOf (r .high);
   middle = totalOf (r .middle);
   low = totalOf (r .low);
@@ -38,7 +41,7 @@ recordOf s = record {
   key = s .key;
   count = s .count;
   top = s .top;
-  reserved = 0;
+  finest = s .finest;
   high = splitOf (s .high);
   middle = splitOf (s .middle);
   low = splitOf (s .low);
@@ -61,13 +64,13 @@ unfoldable pub find : ℕ → List Section → Option Section
 find k [] = none
 find k (t ∷ ts) = cond (eqb k (t .key)) (some t) (find k ts)
 
--- the section with the three levels that the family f of totals has at top t; a level below 0 holds 0
-abbrev pub sectionAt : ℕ → ℕ → ℕ → (ℕ → ℤ) → Section
-sectionAt k n t f = record { key = k; count = n; top = t; high = below f t 0; middle = below f t 1; low = below f t 2 }
+-- the section with the three levels that the family f of totals has at top t, and with the finest power z; a level below 0 holds 0
+abbrev pub sectionAt : ℕ → ℕ → ℕ → ℕ → (ℕ → ℤ) → Section
+sectionAt k n t z f = record { key = k; count = n; top = t; finest = z; high = below f t 0; middle = below f t 1; low = below f t 2 }
 
--- section k of rows with the bits bs, held at top t: their number, t, and the sums of their contributions to the levels t, t - 1 and t - 2
+-- section k of rows with the bits bs, held at top t: their number, t, their finest power, and the sums of their contributions to the levels t, t - 1 and t - 2
 unfoldable pub sectionAtTop : ℕ → ℕ → List ℕ → Section
-sectionAtTop k t bs = sectionAt k (length bs) t (total bs)
+sectionAtTop k t bs = sectionAt k (length bs) t (finestOf bs) (total bs)
 
 -- section k of rows with the bits bs: it is held at their largest top
 abbrev pub sectionOf : ℕ → List ℕ → Section

@@ -1,4 +1,4 @@
--- Document 01's sound table: these conditions and no other.
+-- Document 01's sound table, with Card 7's range for the finest power: these conditions and no other.
 use Prim.Native.Nat.{ℕ, _*_}
 use mathlib.Core.Bool.{Bool, true, _&&_, _||_}
 use mathlib.Core.List.{List, [], _∷_}
@@ -7,6 +7,7 @@ use lib.IntN.{natAbs}
 use lib.ListN.{length}
 use Rattle.level.specs.declared.SplitTotal.{SplitTotal}
 use Rattle.level.specs.Level.{levelBound}
+use Rattle.level.specs.Finest.{highestPower}
 use Rattle.level.specs.Carry.{carryBase, totalOf}
 use Rattle.record.specs.declared.Record.{Record}
 use Rattle.record.specs.Layout.{records, capacity}
@@ -23,7 +24,7 @@ isZero t = eqb (t .residue) 0 && eqb (natAbs (t .carry)) 0
 -- one record by itself; levels below 0 hold 0
 unfoldable pub soundRecord : Record → Bool
 soundRecord r =
-    leb 1 (r .count) && leb (r .top) 52 && eqb (r .reserved) 0
+    leb 1 (r .count) && leb (r .top) 52 && leb (r .finest) highestPower
     && soundTotal (r .count) (r .high) && soundTotal (r .count) (r .middle) && soundTotal (r .count) (r .low)
     && (leb 1 (r .top) || isZero (r .middle)) && (leb 2 (r .top) || isZero (r .low))
 

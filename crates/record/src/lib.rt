@@ -14,7 +14,7 @@ pub struct Record {
     pub key: u32,
     pub count: u32,
     pub top: u32,
-    pub reserved: u32,
+    pub finest: u32,
     pub high: SplitTotal,
     pub middle: SplitTotal,
     pub low: SplitTotal,
@@ -40,7 +40,7 @@ pub fn get(t: &[u8], i: usize) -> Record
         key: codec::u32_at(t, at),
         count: codec::u32_at(t, at + 4),
         top: codec::u32_at(t, at + 8),
-        reserved: codec::u32_at(t, at + 12),
+        finest: codec::u32_at(t, at + 12),
         high: get_total(t, at + 16),
         middle: get_total(t, at + 32),
         low: get_total(t, at + 48),
@@ -64,7 +64,7 @@ pub fn put(t: &mut [u8], i: usize, r: Record)
     codec::put_u32(t, at, r.key);
     codec::put_u32(t, at + 4, r.count);
     codec::put_u32(t, at + 8, r.top);
-    codec::put_u32(t, at + 12, r.reserved);
+    codec::put_u32(t, at + 12, r.finest);
     put_total(t, at + 16, r.high);
     put_total(t, at + 32, r.middle);
     put_total(t, at + 48, r.low);

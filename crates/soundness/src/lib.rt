@@ -10,6 +10,7 @@ ghost use Rattle.record.specs.Layout.{records};
 ghost use Rattle.record.specs.Keys.{recordKeys, rising};
 ghost use Rattle.record.specs.Sound.{soundTotal, isZero, soundRecord, soundRecords, sound};
 use level::CARRY_BASE;
+use level::HIGHEST_POWER;
 use level::LEVEL_BOUND;
 use level::SplitTotal;
 use record::Record;
@@ -65,7 +66,7 @@ fn record_sound(r: Record) -> bool
     ensures { λ x. ⌜ x ≡ soundRecord r ⌝ }
 {
     let n = r.count;
-    let head = both(both(1 <= n, r.top <= 52), r.reserved == 0);
+    let head = both(both(1 <= n, r.top <= 52), r.finest <= HIGHEST_POWER);
     let a = both(
         both(both(head, total_sound(r.high, n)), total_sound(r.middle, n)),
         total_sound(r.low, n),

@@ -8,11 +8,13 @@ use native.Mathlib.Nat.{mul-comm}
 use native.Mathlib.Decide.{decLe}
 use borrow.Author.Tests.{lt-ltb, ltb-false, le-leb, lt-leb}
 use lib.Dec.{leb}
-use lib.ListN.{length, drop, length-append, length-drop}
+use lib.ListN.{length, take, drop, length-append, length-drop}
+use lib.Seq.{take-at}
 use lib.IntN.{ℤ, pos, negsuc, natAbs}
 use mir.Syntax.{w64}
 use mir.Val.{SFits}
 use Rattle.level.specs.Level.{levelBound}
+use Rattle.level.specs.Finest.{highestPower}
 use Rattle.codec.specs.Cells.{cells, image}
 use Rattle.codec.proofs.Laws.{drop-past}
 use Rattle.codec.proofs.Cells.{cells-cons, length-image}
@@ -49,6 +51,7 @@ meaning-record s = λ i. record {
   key = s .key;
   count = s .count;
   top = s .top;
+  finest = s .finest;
   high = total-split (s .high) i;
   middle = total-split (s .middle) i;
   low = total-split (s .low) i;
@@ -69,7 +72,7 @@ recordOf-in-range s f =
       key = p .key;
       count = omega arith;
       top = omega (arith, p .top);
-      reserved = omega arith;
+      finest = omega (arith, p .finest);
       high = splitOf-in-range (s .high) (omega (arith, p .high));
       middle = splitOf-in-range (s .middle) (omega (arith, p .middle));
       low = splitOf-in-range (s .low) (omega (arith, p .low));
@@ -93,6 +96,7 @@ sound-record s p =
     rw (
       le-leb 1 (s .count) (p .count),
       le-leb (s .top) 52 (p .top),
+      le-leb (s .finest) highestPower (p .finest),
       sound-total (s .count) (s .high) (p .high),
       sound-total (s .count) (s .middle) (p .middle),
       sound-total (s .count) (s .low) (p .low),
@@ -123,6 +127,10 @@ pub length-written : (ts : List Section) (s : List ℕ) → length ts ≤ capaci
 length-written ts s h =
     length-append (sectionBytes ts) (drop (64 * length ts) s)
     ∙ rw (length-sectionBytes ts, length-drop (64 * length ts) s) (omega arith)
+
+-- the used bytes of what is written
+pub used-written : (ts : List Section) (s : List ℕ) → take (64 * length ts) (written ts s) ≡ sectionBytes ts
+used-written ts s = take-at (sectionBytes ts) (drop (64 * length ts) s) (64 * length ts) (length-sectionBytes ts)
 
 -- a longer table written over a shorter one
 pub written-over : (ts us : List Section) (s : List ℕ) → length ts ≤ length us → written us (written ts s) ≡ written us s

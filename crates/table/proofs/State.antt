@@ -32,6 +32,7 @@ section-proper r k t =
       key = k;
       count = p .count;
       top = p .top;
+      finest = p .finest;
       high = totalOf-bound (r .count) (r .high) (p .high);
       middle = totalOf-bound (r .count) (r .middle) (p .middle);
       low = totalOf-bound (r .count) (r .low) (p .low);
@@ -45,7 +46,7 @@ record-meaning r t =
     let h = split-total (r .high) (residue-bound (r .count) (r .high) (p .high)) in
     let m = split-total (r .middle) (residue-bound (r .count) (r .middle) (p .middle)) in
     let l = split-total (r .low) (residue-bound (r .count) (r .low) (p .low)) in
-    λ i. record { key = r .key; count = r .count; top = r .top; reserved = sym (p .reserved) i; high = h i; middle = m i; low = l i }
+    λ i. record { key = r .key; count = r .count; top = r .top; finest = r .finest; high = h i; middle = m i; low = l i }
 
 -- ---- the records of a table
 cells-all : {A : Type 0} (P : A → Type 0) (w : ℕ) (f : List ℕ → A) → ((b : List ℕ) → AreBytes b → P (f b)) → (n : ℕ) (s : List ℕ) → AreBytes s → All P (cells w f n s)

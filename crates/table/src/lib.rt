@@ -1,6 +1,6 @@
 // What the calls on tables share: the tests of two columns, and sections combined by value.
 ghost use mathlib.Core.Path.{_≡_};
-ghost use Prim.Native.Nat.{_+_, _≤_, _<_, max};
+ghost use Prim.Native.Nat.{_+_, _≤_, _<_, max, min};
 ghost use lib.Dec.{T};
 ghost use lib.IntN.{pos};
 ghost use Rattle.level.specs.Level.{below};
@@ -106,6 +106,12 @@ fn larger(x: u32, y: u32) -> u32
     if x < y { y } else { x }
 }
 
+fn smaller(x: u32, y: u32) -> u32
+    ensures { λ r. ⌜ r ≡ min x y ⌝ }
+{
+    if x < y { x } else { y }
+}
+
 // Two records of one section and one top as one: their levels stand side by side.
 pub fn combined_same_top(a: Record, b: Record) -> Record
     requires { ⌜ T (soundRecord a) ⌝ }
@@ -117,7 +123,7 @@ pub fn combined_same_top(a: Record, b: Record) -> Record
         key: a.key,
         count: a.count + b.count,
         top: a.top,
-        reserved: 0,
+        finest: smaller(a.finest, b.finest),
         high: level::add_totals(a.high, b.high),
         middle: level::add_totals(a.middle, b.middle),
         low: level::add_totals(a.low, b.low),
@@ -137,7 +143,7 @@ pub fn combined_by_level(a: Record, b: Record) -> Record
         key: a.key,
         count,
         top: t,
-        reserved: 0,
+        finest: smaller(a.finest, b.finest),
         high: total_below(a, b, t, 0),
         middle: total_below(a, b, t, 1),
         low: total_below(a, b, t, 2),
@@ -169,7 +175,7 @@ pub fn row_record(key: u32, bits: u64) -> Record
         key,
         count: 1,
         top: c.top,
-        reserved: 0,
+        finest: level::finest_power(bits),
         high: level::split(c.high),
         middle: level::split(c.middle),
         low: level::split(c.low),

@@ -16,7 +16,7 @@ use Rattle.totals.specs.Totals.{rowTotal, totalsOutcome}
 
 -- a section with n rows that are 0
 abbrev sectionOfZeros : ℕ → ℕ → Section
-sectionOfZeros k n = record { key = k; count = n; top = 0; high = pos 0; middle = pos 0; low = pos 0 }
+sectionOfZeros k n = record { key = k; count = n; top = 0; finest = 2098; high = pos 0; middle = pos 0; low = pos 0 }
 
 -- a buffer of 200 bytes with the records of these sections
 abbrev bufferOf : List Section → List ℕ

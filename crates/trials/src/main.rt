@@ -162,7 +162,7 @@ fn step(t: &mut [u8], g: u64, other: &[u8], h: u64, x: u64, kind: u64) -> u64 {
     groups_after(r, g)
 }
 
-// Section, answer, row count and side of the line, sum and its side, mill figure; nothing of an absent section below 16.
+// Section, answer, row count and side of the line, sum and its side, mill figure, whether it is exact; nothing of an absent section below 16.
 fn print_section(t: &[u8], g: u64, key: u32) {
     let mut count: u64 = 9;
     let mut bits: u64 = 9;
@@ -181,6 +181,7 @@ fn print_section(t: &[u8], g: u64, key: u32) {
     print(word(side));
     exports::girth_figure(t, g, key, &mut figure);
     print(word(figure));
+    print(word(exports::girth_exact(t, g, key)));
     end_line();
 }
 
@@ -345,13 +346,14 @@ fn run_files() {
     }
 }
 
-// A saved table of one record, now and then with a row count of 0 or with a wrong field of its trailer, loaded into a table that may be a byte too short.
+// A saved table of one record, now and then with a row count of 0, a finest power of 2,099 or a wrong field of its trailer, loaded into a table that may be a byte too short.
 fn run_saved_file(x: u64) {
     let mut file = [0u8; 80];
     let mut t = [0x5Au8; 72];
     let mut short = [0x5Au8; 63];
     codec::put_u32(&mut file, 0, (x >> 48) as u32);
     codec::put_u32(&mut file, 4, ((x % 8 + 6) / 7) as u32);
+    codec::put_u32(&mut file, 12, (2091 + (x >> 44) % 9) as u32);
     codec::put_u32(&mut file, 64, (1 + ((x >> 8) % 8) / 7) as u32);
     codec::put_u32(&mut file, 68, (80 + ((x >> 16) % 8) / 7) as u32);
     codec::put_u32(&mut file, 72, (((x >> 24) % 8) / 7) as u32);

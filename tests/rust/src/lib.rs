@@ -1,5 +1,5 @@
 //! The calls with a refusal as its bare number, as the exact model gives it.
-pub use girths::{Columns, Line, Sum, Totals};
+pub use girths::{Columns, Exactness, Line, Sum, Totals};
 
 fn number<T>(r: Result<T, girths::Refusal>) -> Result<T, u32> {
     r.map_err(|e| e.number())
@@ -31,6 +31,10 @@ pub fn figure(table: &[u8], g: u64, key: u32) -> Result<i64, u32> {
 
 pub fn line(table: &[u8], g: u64, key: u32) -> Result<Line, u32> {
     number(girths::line(table, g, key))
+}
+
+pub fn exact(table: &[u8], g: u64, key: u32) -> Result<Exactness, u32> {
+    number(girths::exact(table, g, key))
 }
 
 pub fn totals(table: &[u8], g: u64) -> Result<Totals, u32> {

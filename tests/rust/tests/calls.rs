@@ -114,7 +114,22 @@ fn finish_both(table: &[u8], g: u64, key: u32) -> Result<i64, u32> {
     assert_eq!(calls::sum(table, g, key), sum);
     assert_eq!(calls::figure(table, g, key), figure);
     assert_eq!(calls::line(table, g, key), line);
+    exact_both(table, g, key).ok();
     figure
+}
+
+/// Whether a section is answered exact, compared with the model.
+fn exact_both(table: &[u8], g: u64, key: u32) -> Result<bool, u32> {
+    let before = table.to_vec();
+    let got = calls::exact(table, g, key).map(|e| e == calls::Exactness::Exact);
+    assert_eq!(got, model::find(table, g, key).map(|s| s.exact()), "section {key} of {g} records");
+    assert!(table == before, "the call only reads the table");
+    got
+}
+
+/// The finest power in the record of section 7, which is the table's only one.
+fn finest_of(table: &[u8]) -> u32 {
+    u32::from_le_bytes(table[12..16].try_into().unwrap())
 }
 
 /// The totals of a table, compared with the model.
@@ -222,15 +237,15 @@ fn bench_book() {
         let (t, g) = of_values(rows);
         model::find(&t, g, 7).unwrap()
     };
-    for (bits, top, totals) in [
-        (1f64.to_bits(), 26, [1 << 34, 0, 0]),
-        (32f64.to_bits(), 27, [0, 1 << 39, 0]),
-        (96f64.to_bits(), 27, [2, -(1 << 39), 0]),
-        (1, 0, [1, 0, 0]),
-        (0x7FFFFFFFFF, 0, [549755813887, 0, 0]),
-        (0x8000000000, 1, [0, 1 << 39, 0]),
+    for (bits, top, finest, totals) in [
+        (1f64.to_bits(), 26, 1074, [1 << 34, 0, 0]),
+        (32f64.to_bits(), 27, 1079, [0, 1 << 39, 0]),
+        (96f64.to_bits(), 27, 1079, [2, -(1 << 39), 0]),
+        (1, 0, 0, [1, 0, 0]),
+        (0x7FFFFFFFFF, 0, 0, [549755813887, 0, 0]),
+        (0x8000000000, 1, 39, [0, 1 << 39, 0]),
     ] {
-        assert_eq!(section(&[bits]), Section { count: 1, top, totals });
+        assert_eq!(section(&[bits]), Section { count: 1, top, finest, totals });
         assert_eq!(one(bits), section(&[bits]));
     }
     assert_eq!(section(&[31.5f64.to_bits()]).totals[0], 541165879296);
@@ -280,7 +295,7 @@ fn every_refusal() {
     assert_eq!(add_both(&mut vec![5; 64], 0, &[], &[], &mut [9; 63]), Err(8));
     assert_eq!(add_both(&mut vec![5; 64], 0, &[0; 8], &[0; 8], &mut [9; 64]), Err(9));
     assert_eq!(add_both(&mut vec![5; 64], 0, &key(1), &0x7FF0000000000000u64.to_le_bytes(), &mut [9; 64]), Err(10));
-    let mut full = Section { count: 4294967295, top: 26, totals: [1 << 34, 0, 0] }.bytes(1);
+    let mut full = Section { count: 4294967295, top: 26, finest: 1074, totals: [1 << 34, 0, 0] }.bytes(1);
     assert_eq!(add_both(&mut full, 1, &key(1), &one, &mut [9; 64]), Err(11));
     let other = full.clone();
     assert_eq!(merge_both(&mut full, 1, &other, 1), Err(11));
@@ -470,7 +485,12 @@ fn record(r: &mut Random) -> Section {
             };
         }
     }
-    Section { count, top, totals }
+    let finest = match r.below(4) {
+        0 => [0, 1, 2097, 2098][r.below(4) as usize],
+        1 => (40 * top.saturating_sub(2) + r.below(3) as u32).saturating_sub(1),
+        _ => r.below(2099) as u32,
+    };
+    Section { count, top, finest, totals }
 }
 
 fn table(r: &mut Random, groups: usize, room: usize, span: u64) -> (Vec<u8>, u64) {
@@ -494,6 +514,10 @@ fn damage(r: &mut Random, t: &mut [u8], g: &mut u64) {
         2 if *g > 0 => {
             let at = 64 * r.below(*g) as usize + 4 * r.below(16) as usize;
             t[at..at + 4].copy_from_slice(&[[0; 4], [255; 4], [53, 0, 0, 0], [0, 0, 4, 0]][r.below(4) as usize]);
+        }
+        3 if *g > 0 && r.chance(2) => {
+            let at = 64 * r.below(*g) as usize + 12;
+            t[at..at + 4].copy_from_slice(&(2098 + r.below(2) as u32).to_le_bytes());
         }
         _ => {}
     }
@@ -673,7 +697,7 @@ fn totals_after_calls() {
 /// Sound tables that no calls made: from no record to as many as there may be, with counts up to the largest, and what stands after them.
 #[test]
 fn totals_of_lent_tables() {
-    let full: Vec<u8> = (0..1026).flat_map(|key| Section { count: 4294967295, top: 0, totals: [0; 3] }.bytes(key)).collect();
+    let full: Vec<u8> = (0..1026).flat_map(|key| Section { count: 4294967295, top: 0, finest: 2098, totals: [0; 3] }.bytes(key)).collect();
     for (g, rows) in [(0, 0), (1, 4294967295), (2, 8589934590), (1023, 4393751542785), (1024, 4398046510080)] {
         for length in [64 * g, 64 * g + 63, full.len()] {
             assert_eq!(totals_both(&full[..length], g as u64), Ok((g as u64, rows)));
@@ -704,19 +728,19 @@ fn totals_of_lent_tables() {
 /// Each condition of soundness broken alone, in every place of a table; after the used bytes it plays no part.
 #[test]
 fn totals_of_unsound_tables() {
-    let sound = Section { count: 3, top: 26, totals: [1 << 34, -5, 0] };
+    let sound = Section { count: 3, top: 26, finest: 1000, totals: [1 << 34, -5, 0] };
     let with = |at: usize, words: &[u8]| {
         let mut b = sound.bytes(0);
         b[at..at + words.len()].copy_from_slice(words);
         b
     };
-    let record_of = |top: u32, totals: [i128; 3]| Section { count: 3, top, totals }.bytes(0);
+    let record_of = |top: u32, totals: [i128; 3]| Section { count: 3, top, finest: 0, totals }.bytes(0);
     let most = 3 << 39;
     let unsound = [
-        Section { count: 0, top: 26, totals: [0; 3] }.bytes(0),
+        Section { count: 0, top: 26, finest: 0, totals: [0; 3] }.bytes(0),
         record_of(53, [0; 3]),
         record_of(u32::MAX, [0; 3]),
-        with(12, &[1, 0, 0, 0]),
+        with(12, &2099u32.to_le_bytes()),
         with(12, &[0, 0, 0, 128]),
         // a residue of 2^50, in a total of 0
         with(16, &[(1u64 << 50).to_le_bytes(), u64::MAX.to_le_bytes()].concat()),
@@ -749,7 +773,7 @@ fn totals_of_unsound_tables() {
 
 /// Sound records with rising keys, as many as asked.
 fn records(n: u32) -> Vec<u8> {
-    (0..n).flat_map(|i| Section { count: 4294967295 - i as u64, top: 1 + i % 52, totals: [-(i as i128), 1 << 39, 0] }.bytes(3 * i + 7)).collect()
+    (0..n).flat_map(|i| Section { count: 4294967295 - i as u64, top: 1 + i % 52, finest: 2098 - i, totals: [-(i as i128), 1 << 39, 0] }.bytes(3 * i + 7)).collect()
 }
 
 /// 7, then 18, then 16: each alone, and each where those after it hold too.
@@ -758,7 +782,7 @@ fn refusals_of_saving() {
     let mut r = Random(15);
     let full = records(1026);
     let mut damaged = full.clone();
-    damaged[64 * 1023 + 12] = 1;
+    damaged[64 * 1023 + 14] = 1;
     let (all, exact) = (full.len(), 64 * 1024);
     for (table, length, g, room, answer) in [
         (&full, all, 1025, 70000, Err(7)),
@@ -940,7 +964,7 @@ fn unsound_saved_files() {
         let answer = load_both(&damaged, &mut into);
         // an unsound table is no reason to refuse a sound file
         let mut unsound = other.clone();
-        unsound[at + 12] = 9;
+        unsound[at + 14] = 9;
         assert_eq!(load_both(&damaged, &mut unsound), answer);
         seen[(answer == Err(7)) as usize] += 1;
     }
@@ -1111,6 +1135,383 @@ fn tops_of_every_field() {
         assert_eq!(tops.len(), if field == 0 { 2 } else { 1 });
     }
     assert!(seen.iter().all(|&top| top));
+}
+
+/// Rows of every finest power from 0 to 2,097, of both signs: the power of two alone, and odd numbers of it with more digits, subnormal ones among them.
+#[test]
+fn finest_powers() {
+    let mut r = Random(26);
+    let (mut rows, mut subnormal, mut answers) = (0, 0, [0; 2]);
+    for z in 0..2098usize {
+        // odd numbers times 2^z, of as many digits as a row may have: 53, and fewer where the row would be too large
+        let longest = 53.min(2098 - z);
+        let mut odd = vec![1, (1 << longest) - 1, r.next() >> (64 - longest) | 1];
+        if z < 51 {
+            odd.extend([(1 << (52 - z)) - 1, r.next() >> (12 + z) | 1]);
+        }
+        if z < 2097 {
+            odd.push(3);
+        }
+        for m in odd {
+            for sign in [0, 1 << 63] {
+                let bits = model::nearest_double(Big::from(m as i128).shl(z)) | sign;
+                assert_eq!(model::value(bits).size(), Big::from(m as i128).shl(z), "{m} x 2^{z} is a double");
+                let (k, v) = columns(&[(7, bits)]);
+                let mut t = vec![0xA5; 64];
+                add_both(&mut t, 0, &k, &v, &mut [1; 64]).unwrap();
+                assert_eq!(finest_of(&t), z as u32, "{m} x 2^{z}");
+                answers[exact_both(&t, 1, 7).unwrap() as usize] += 1;
+                (rows, subnormal) = (rows + 1, subnormal + (bits >> 52 & 2047 == 0) as u32);
+            }
+        }
+    }
+    for zeros in [vec![0], vec![1 << 63], vec![0, 1 << 63, 0]] {
+        assert_eq!(finest_of(&of_values(&zeros).0), 2098);
+        // zeros beside another row play no part
+        assert_eq!(finest_of(&of_values(&[&zeros[..], &[2f64.powi(1023).to_bits()]].concat()).0), 2097);
+        assert_eq!(finest_of(&of_values(&[&[1], &zeros[..]].concat()).0), 0);
+    }
+    // a row alone is always answered exact: its 53 digits lie within three levels
+    assert!(rows > 2 * 4 * 2000 && subnormal > 200 && answers[0] == 0, "{rows} {subnormal} {answers:?}");
+}
+
+/// Rows about the levels t, t - 1 and t - 2: multiples of a power at the lowest kept unit, or not far from it, and one that needs level t.
+fn rows_about(r: &mut Random, t: usize, n: usize) -> Vec<u64> {
+    let lowest = (40 * t).saturating_sub(80) + r.below(5) as usize;
+    let z = match r.below(3) {
+        0 => lowest.saturating_sub(2),
+        1 => (40 * t + 20).saturating_sub(r.below(130) as usize).min(2097),
+        _ => (40 * t).saturating_sub(80),
+    };
+    let row = |r: &mut Random, z: usize| {
+        let digits = 1 + r.below(53.min(40 * t as u64 + 39 - z as u64).min(2098 - z as u64));
+        let m = if r.chance(6) { 0 } else { r.next() >> (64 - digits) };
+        model::nearest_double(Big::from(m as i128).shl(z)) | r.below(2) << 63
+    };
+    let mut rows: Vec<u64> = (0..n).map(|_| row(r, z)).collect();
+    rows.push(model::nearest_double(Big::power((40 * t).max(1) - 1 + r.below(2) as usize)) | r.below(2) << 63);
+    if r.chance(3) {
+        // one row that is finer, beside others that are not
+        let z = z.saturating_sub(r.below(4) as usize);
+        rows.push(row(r, z));
+    }
+    r.shuffle(&mut rows);
+    rows
+}
+
+/// Sections of several rows: the finest power is the smallest of the rows', and a section that is answered exact keeps the exact sum. The others may keep it too.
+#[test]
+fn exact_sections() {
+    let mut r = Random(27);
+    let mut seen: BTreeMap<(bool, bool, bool), u32> = BTreeMap::new();
+    for turn in 0..6000 {
+        let n = 1 + r.below(if turn % 40 == 0 { 100 } else { 12 }) as usize;
+        let t = r.below(53) as usize;
+        let rows = if turn % 4 == 0 { r.rows(n) } else { rows_about(&mut r, t, n) };
+        let (k, v) = columns(&rows.iter().map(|&b| (7, b)).collect::<Vec<_>>());
+        let mut table = vec![0xA5; 64];
+        add_both(&mut table, 0, &k, &v, &mut [1; 64]).unwrap();
+        assert_eq!(finest_of(&table), rows.iter().map(|&b| model::finest(&[b])).min().unwrap());
+        let sum = rows.iter().fold(Big::ZERO, |sum, &b| sum.plus(model::value(b)));
+        let section = model::find(&table, 1, 7).unwrap();
+        let (exact, same) = (exact_both(&table, 1, 7).unwrap(), section.kept() == sum);
+        assert!(same || !exact, "{rows:x?}");
+        *seen.entry((exact, same, section.top > 2)).or_default() += 1;
+    }
+    for kind in [(true, true, true), (true, true, false), (false, true, true), (false, false, true)] {
+        assert!(seen.get(&kind).is_some_and(|&n| n > 60), "{seen:?}");
+    }
+}
+
+/// For every top the power that is just enough, and one less; with tops up to 2 every power is.
+#[test]
+fn edges_of_exactness() {
+    // rows: the smallest and the largest power of two that have this top, and beside them a finer one
+    for t in 0..=52i32 {
+        let edge = 40 * (t - 2);
+        for big in [(40 * t - 1).max(0), (40 * t + 38).min(2097)] {
+            for z in [0, 1, 39, 40, edge - 1, edge, edge + 1].into_iter().filter(|z| (0..=big).contains(z)) {
+                let (table, g) = of_values(&[big, z].map(|e| model::nearest_double(Big::power(e as usize))));
+                assert_eq!((table[8] as i32, finest_of(&table) as i32), (t, z));
+                assert_eq!(exact_both(&table, g, 7), Ok(t <= 2 || z >= edge), "top {t}, finest power {z}");
+            }
+        }
+    }
+    // records of every top and every finest power, whatever their totals are
+    let mut answers = [0; 2];
+    for top in 0..=52u32 {
+        for finest in 0..=2098 {
+            let b = Section { count: 5, top, finest, totals: [1, if top > 0 { -7 } else { 0 }, (top > 1) as i128] }.bytes(7);
+            let exact = calls::exact(&b, 1, 7) == Ok(calls::Exactness::Exact);
+            assert_eq!(exact, top <= 2 || finest + 80 >= 40 * top, "{top} {finest}");
+            answers[exact as usize] += 1;
+        }
+    }
+    // 40 × (1 + .. + 50) pairs are below the edge
+    assert_eq!(answers, [51000, 53 * 2099 - 51000]);
+    for (top, finest, exact) in [(2, 0, true), (3, 39, false), (3, 40, true), (52, 1999, false), (52, 2000, true), (26, 959, false), (26, 960, true)] {
+        assert_eq!(exact_both(&Section { count: 1, top, finest, totals: [0; 3] }.bytes(7), 1, 7), Ok(exact), "{top} {finest}");
+    }
+}
+
+/// An add and a merge keep the smaller finest power of a section that both have, whichever has the larger top; a section of one alone keeps its own.
+#[test]
+fn smaller_finest_powers() {
+    let mut r = Random(28);
+    let powers = [0, 1, 39, 40, 1073, 1074, 2096, 2097, 2098];
+    let finest_at = |t: &[u8], i: usize| u32::from_le_bytes(t[64 * i + 12..64 * i + 16].try_into().unwrap());
+    for (a, b) in powers.iter().flat_map(|a| powers.map(|b| (*a, b))) {
+        for (s, t) in [(0, 0), (26, 26), (26, 27), (27, 26), (52, 3), (3, 52)] {
+            let record = |top, finest| Section { count: 1, top, finest, totals: [0; 3] };
+            let mut first = [record(s, a).bytes(7), record(s, b).bytes(9), vec![0xA5; 64]].concat();
+            let second = [record(t, b).bytes(7), record(t, a).bytes(8)].concat();
+            assert_eq!(merge_both(&mut first, 2, &second, 2), Ok(3));
+            assert_eq!([0, 1, 2].map(|i| finest_at(&first, i)), [a.min(b), a, b]);
+        }
+        // the same powers by rows: one that has the second is added to a record with the first, and to an empty table beside it
+        let row = if b == 2098 { 0 } else { model::nearest_double(Big::power(b as usize)) } | r.below(2) << 63;
+        for top in [0, model::top(row), 52] {
+            let mut t = [Section { count: 1, top, finest: a, totals: [0; 3] }.bytes(7), vec![0xA5; 64]].concat();
+            let (k, v) = columns(&[(7, row), (5, row)]);
+            assert_eq!(add_both(&mut t, 1, &k, &v, &mut [1; 128]), Ok(2));
+            assert_eq!([0, 1].map(|i| finest_at(&t, i)), [b, a.min(b)], "{a} and {b}");
+        }
+    }
+}
+
+/// What each call answers that gets a table of g records, the last one a load of the records as a file.
+fn every_answer(t: &[u8], g: u64, key: u32) -> [Option<u32>; 10] {
+    let (row, zeros) = (columns(&[(key, 1f64.to_bits())]), vec![0; t.len()]);
+    let file = [t, &(g as u32).to_le_bytes()[..], &(64 * g as u32 + 16).to_le_bytes(), &[0; 4], b"TABL"].concat();
+    [
+        add_both(&mut t.to_vec(), g, &row.0, &row.1, &mut zeros.clone()).err(),
+        merge_both(&mut t.to_vec(), g, &[], 0).err(),
+        merge_both(&mut zeros.clone(), 0, t, g).err(),
+        finish_both(t, g, key).err(),
+        calls::sum(t, g, key).err(),
+        calls::line(t, g, key).err(),
+        exact_both(t, g, key).err(),
+        totals_both(t, g).err(),
+        save_both(t, g, &mut vec![0; t.len() + 16]).err(),
+        load_both(&file, &mut zeros.clone()).err(),
+    ]
+}
+
+/// A finest power from 2,099 on is not sound, at every place of a table and for every call; all smaller ones are, whatever else the record says.
+#[test]
+fn unsound_finest_powers() {
+    let mut r = Random(29);
+    for finest in [2099, 2100, 4096, 1 << 16, (1 << 16) + 5, 1 << 24, 1 << 31, u32::MAX] {
+        for at in 0..5 {
+            let mut t = records(5);
+            t[64 * at + 12..64 * at + 16].copy_from_slice(&u32::to_le_bytes(finest));
+            // section 7 is the first one; 8 is absent: 7 comes before 13
+            for key in [7, 8] {
+                assert_eq!(every_answer(&t, 5, key), [Some(7); 10], "{finest} in record {at}");
+            }
+            // beyond the used bytes it plays no part
+            let before = totals_both(&t, at as u64);
+            assert!(before.is_ok(), "{finest} after {at} records");
+        }
+    }
+    for finest in [0, 1, 255, 256, 2047, 2048, 2096, 2097, 2098] {
+        for _ in 0..20 {
+            let mut t: Vec<u8> = (0..3).flat_map(|i| Section { count: 1 + r.below(9), finest, ..record(&mut r) }.bytes(7 + i)).collect();
+            for record in t.chunks_mut(64) {
+                // totals that so few rows allow
+                record[16..].fill(0);
+            }
+            assert_eq!(every_answer(&t, 3, 7), [None; 10], "{finest}");
+            assert_eq!(every_answer(&t, 3, 99)[3..7], [Some(13); 4], "{finest}");
+        }
+    }
+}
+
+/// The question's refusals: 7, also where 13 would hold, then 13.
+#[test]
+fn refusals_of_the_question() {
+    let t = records(3);
+    for (length, g, key, answer) in [
+        (192, 4, 7, Err(7)), (192, 4, 8, Err(7)), (191, 3, 7, Err(7)), (0, 1, 7, Err(7)), (0, u64::MAX, 7, Err(7)), (192, 1 << 58, 8, Err(7)), (192, (1 << 32) + 3, 8, Err(7)),
+        (192, 3, 8, Err(13)), (192, 3, 0, Err(13)), (192, 3, u32::MAX, Err(13)), (192, 2, 13, Err(13)), (192, 0, 7, Err(13)), (0, 0, 0, Err(13)),
+        (192, 3, 7, Ok(true)), (192, 3, 13, Ok(true)), (128, 2, 10, Ok(true)),
+    ] {
+        assert_eq!(exact_both(&t[..length], g, key), answer, "{length} bytes, {g} records, section {key}");
+    }
+}
+
+/// The bytes of records without their finest powers.
+fn without_finest(used: &[u8]) -> Vec<u8> {
+    used.iter().enumerate().filter(|(i, _)| !(12..16).contains(&(i % 64))).map(|(_, x)| *x).collect()
+}
+
+/// A saved table as an older version wrote it, with 0 in place of each finest power.
+fn as_older(file: &[u8]) -> Vec<u8> {
+    let records = file.len() - 16;
+    file.iter().enumerate().map(|(i, x)| if i < records && (12..16).contains(&(i % 64)) { 0 } else { *x }).collect()
+}
+
+/// A file as it is written and the same as an older version wrote it, loaded, added to, merged and saved alike: all but the finest powers and the question's answer
+/// is the same, and sections of the older file keep 0.
+#[test]
+fn tables_of_an_older_version() {
+    let mut r = Random(30);
+    let (mut answers, mut raised) = ([[0; 2]; 2], 0);
+    for turn in 0..400 {
+        let span = 1 + r.below(10);
+        let t = if turn % 4 == 0 { r.below(3) } else { r.below(53) } as usize;
+        let some = |r: &mut Random| -> Vec<(u32, u64)> {
+            let n = 1 + r.below(9) as usize;
+            let rows = if r.chance(2) { rows_about(r, t, n) } else { (0..n).map(|_| (r.below(4000) as f64 / 8.0 - 250.0).to_bits()).collect() };
+            rows.into_iter().map(|b| (r.below(span) as u32, b)).collect()
+        };
+        let (k, v) = columns(&some(&mut r));
+        let mut start = r.bytes(64 * 12);
+        let g = add_both(&mut start, 0, &k, &v, &mut [1; 64 * 12]).unwrap();
+        let file = saved(&mut r, &start, g);
+        let older = as_older(&file);
+        let (mut new, mut old) = (r.bytes(64 * 12), r.bytes(64 * 12));
+        let (mut g, mut h) = (load_both(&file, &mut new).unwrap(), load_both(&older, &mut old).unwrap());
+        let from_file: BTreeSet<u32> = (0..h as usize).map(|i| u32::from_le_bytes(old[64 * i..64 * i + 4].try_into().unwrap())).collect();
+        for step in 0..5 {
+            assert!(g == h && without_finest(&new[..64 * g as usize]) == without_finest(&old[..64 * g as usize]));
+            assert_eq!(totals_both(&old, h), totals_both(&new, g));
+            for (key, s) in model::sections(&old, h).unwrap() {
+                let finish = |t: &[u8]| (calls::sum(t, g, key), calls::figure(t, g, key), calls::line(t, g, key));
+                finish_both(&old, h, key).ok();
+                assert_eq!(finish(&old), finish(&new));
+                let (known, exact) = (model::find(&new, g, key).unwrap(), exact_both(&old, h, key).unwrap());
+                if from_file.contains(&key) {
+                    assert!(s.finest == 0 && exact == (s.top <= 2), "section {key} of the older file");
+                    answers[exact as usize][exact_both(&new, g, key).unwrap() as usize] += 1;
+                } else {
+                    assert_eq!(s, known, "section {key}, which came later");
+                    raised += (s.finest > 0) as u32;
+                }
+            }
+            let (k, v) = columns(&some(&mut r));
+            if step % 2 == 0 {
+                (g, h) = (add_both(&mut new, g, &k, &v, &mut [1; 64 * 12]).unwrap(), add_both(&mut old, h, &k, &v, &mut [1; 64 * 12]).unwrap());
+            } else {
+                let mut other = r.bytes(64 * 12);
+                let many = add_both(&mut other, 0, &k, &v, &mut [1; 64 * 12]).unwrap();
+                if r.chance(2) {
+                    (g, h) = (merge_both(&mut new, g, &other, many).unwrap(), merge_both(&mut old, h, &other, many).unwrap());
+                } else {
+                    // into another table, and on from there
+                    let mut same = other.clone();
+                    (g, h) = (merge_both(&mut other, many, &new, g).unwrap(), merge_both(&mut same, many, &old, h).unwrap());
+                    (new, old) = (other, same);
+                }
+            }
+            if r.chance(3) {
+                let file = saved(&mut r, &old, h);
+                old = strange(&mut r, &file, 64 * 12);
+                assert_eq!(load_both(&file, &mut old), Ok(h));
+            }
+        }
+    }
+    // by the answer in the older file's table, then by that in the other one: where the first is exact, so is the second
+    assert!(answers[0][0] > 100 && answers[0][1] > 1000 && answers[1][1] > 300 && answers[1][0] == 0 && raised > 300, "{answers:?} {raised}");
+}
+
+/// Lists of adds, merges, saves and loads, refused ones among them, the loads now and then of a file as an older version wrote it: a section that is answered exact keeps the
+/// exact sum of the rows that the calls brought. The used bytes are those of the same rows added one by one, with 0 for the finest power of each section that has a row of an older file.
+#[test]
+fn exact_sections_of_lists() {
+    let mut r = Random(31);
+    let (mut answers, mut refused, mut onward) = ([[0; 2]; 2], BTreeMap::new(), [0; 3]);
+    let (mut faded, mut beside, mut several) = (0, 0, [0; 3]);
+    for turn in 0..800 {
+        let (span, t, older) = (1 + r.below(6), r.below(53) as usize, turn % 2 == 0);
+        // bytes, group count, rows, and the sections with a row of an older file
+        let mut tables = vec![];
+        for _ in 0..3 {
+            let room = 2 + r.below(5) as usize;
+            tables.push((r.bytes(64 * room), 0, Rows::default(), BTreeSet::new()));
+        }
+        let mut shelf = vec![];
+        for _ in 0..30 {
+            let i = r.below(3) as usize;
+            let (mut bytes, mut g, mut held, mut of_older) = tables[i].clone();
+            let answer = match r.below(10) {
+                0..4 => {
+                    let n = r.below(5) as usize;
+                    let rows: Vec<(u32, u64)> = rows_about(&mut r, t, n).into_iter().map(|b| (r.below(span) as u32, b)).collect();
+                    let (k, v) = columns(&rows);
+                    let answer = add_both(&mut bytes, g, &k, &v, &mut [1; 64 * 6]);
+                    if answer.is_ok() {
+                        held.take(&Rows::of(&rows));
+                        onward[0] += rows.iter().any(|row| of_older.contains(&row.0)) as u32;
+                    }
+                    answer
+                }
+                4 | 5 => {
+                    let (second, g2, brought, others) = &tables[(i + 1) % 3];
+                    let answer = merge_both(&mut bytes, g, second, *g2);
+                    if answer.is_ok() {
+                        held.take(brought);
+                        onward[1] += !others.is_subset(&of_older) as u32;
+                        of_older.extend(others);
+                    }
+                    answer
+                }
+                6 | 7 => {
+                    shelf.push((saved(&mut r, &bytes, g), held.clone(), of_older.clone()));
+                    Ok(g)
+                }
+                _ => {
+                    let (file, rows, others) = shelf.pop().unwrap_or_default();
+                    let by_older = older && !file.is_empty() && r.chance(2);
+                    let answer = load_both(&if by_older { as_older(&file) } else { file }, &mut bytes);
+                    if answer.is_ok() {
+                        onward[2] += (!by_older && !others.is_empty()) as u32;
+                        of_older = if by_older { rows.each().map(|row| row.0).collect() } else { others };
+                        held = rows;
+                    }
+                    answer
+                }
+            };
+            match answer {
+                Ok(after) => g = after,
+                Err(e) => *refused.entry(e).or_insert(0) += 1,
+            }
+            tables[i] = (bytes, g, held, of_older);
+        }
+        for (bytes, g, held, of_older) in &tables {
+            for (key, s) in model::sections(bytes, *g).unwrap() {
+                let (exact, whole) = (exact_both(bytes, *g, key).unwrap(), s.kept() == held.sum(key));
+                assert!(whole || !exact, "section {key}");
+                answers[exact as usize][whole as usize] += 1;
+                let finest = model::finest(&held.doubles(key));
+                assert_eq!(s.finest, if of_older.contains(&key) { 0 } else { finest }, "section {key}, whose rows have {finest}");
+                faded += (of_older.contains(&key) && finest > 0) as u32;
+                beside += (!of_older.contains(&key) && finest > 0 && !of_older.is_empty()) as u32;
+            }
+            // the same rows, each by an add of its own
+            let (mut again, mut h) = (r.bytes(64 * 6), 0);
+            for row in held.each() {
+                let (k, v) = columns(&[row]);
+                h = add_both(&mut again, h, &k, &v, &mut [1; 64 * 6]).unwrap();
+            }
+            let used = 64 * *g as usize;
+            assert_eq!(h, *g);
+            for record in again[..used].chunks_mut(64) {
+                if of_older.contains(&u32::from_le_bytes(record[..4].try_into().unwrap())) {
+                    record[12..16].fill(0);
+                }
+            }
+            assert!(again[..used] == bytes[..used]);
+            several[if of_older.is_empty() { older as usize } else { 2 }] += (*g > 1) as u32;
+        }
+    }
+    assert!(answers[0][0] > 100 && answers[0][1] > 100 && answers[1][1] > 1000, "{answers:?}");
+    // sections with a row of an older file whose rows have another finest power than 0, and other sections in the same tables
+    assert!(faded > 200 && beside > 40, "{faded} {beside}");
+    // tables of several sections that were compared: in lists without older files; in the others, without a row of one, and with
+    assert!(several.iter().all(|&n| n > 100), "{several:?}");
+    // how often an add came to a section of an older file, a merge brought one, and a file of this version was loaded that has one
+    assert!(onward.iter().all(|&n| n > 20) && [2, 12, 16].iter().all(|e| refused.get(e).is_some_and(|&n| n > 20)), "{onward:?} {refused:?}");
 }
 
 /// Three rows whose sum is an exact half of a hundredth, an odd number of eighths; and its mill figure, which is in range.
@@ -1333,7 +1734,7 @@ fn sides_of_records() {
             totals[i] += q << 40;
             totals[i - 1] -= q;
         }
-        let s = Section { count: 4294967295, top: top as u32, totals };
+        let s = Section { count: 4294967295, top: top as u32, finest: 0, totals };
         assert_eq!(s.kept(), n.kept(), "{n:?}");
         assert_eq!(seen.finish(&s.bytes(7), 1, 7), Ok(n.sum()), "{n:?}");
         ties.count(n);
@@ -1502,12 +1903,12 @@ fn samples() {
     assert!(files >= 16);
 }
 
-/// Each saved table of samples/: its name tells the refusal, or the patch file whose rows it has. A file of one kind is none of the other.
+/// Each saved table of samples/: its name tells the refusal, the patch file whose rows it has, or the table that an older version saved. A file of one kind is none of the other.
 #[test]
 fn saved_samples() {
     let mut r = Random(24);
     let folder = concat!(env!("CARGO_MANIFEST_DIR"), "/../../samples");
-    let mut files = [0; 2];
+    let (mut files, mut older) = ([0; 2], 0);
     for entry in std::fs::read_dir(folder).unwrap() {
         let path = entry.unwrap().path();
         if path.extension().is_none_or(|e| e != "table") {
@@ -1522,6 +1923,12 @@ fn saved_samples() {
         assert_eq!(read_both(&data).err(), if refused == Some(3) { Some(5) } else { Some(3) }, "{name}");
         files[refused.is_some() as usize] += 1;
         let Ok(g) = answer else { continue };
+        if let Some(same) = name.strip_prefix("older-") {
+            let newer = std::fs::read(path.with_file_name(same)).unwrap();
+            assert!(newer != data && as_older(&newer) == data, "{name}");
+            older += 1;
+            continue;
+        }
         let patch = std::fs::read(path.with_extension("patch")).unwrap();
         assert_eq!(load_both(&patch, &mut table), Err(3), "{name}");
         let (n, k, v) = model::read(&patch).unwrap();
@@ -1529,7 +1936,7 @@ fn saved_samples() {
         assert_eq!(add_both(&mut added, 0, &patch[k..k + 4 * n], &patch[v..v + 8 * n], &mut [1; 4096]), Ok(g));
         assert_eq!(saved(&mut r, &added, g), data, "{name}");
     }
-    assert!(files[0] >= 4 && files[1] >= 5, "{files:?}");
+    assert!(files[0] >= 6 && files[1] >= 6 && older >= 1, "{files:?} {older}");
 }
 
 /// A file that tools/mkpatch makes is accepted, has the rows of its text, and is what the library writes.

@@ -1,7 +1,8 @@
 -- `record_sound` asks each condition of soundness by itself, in the definition's order.
 use mathlib.Core.Path.{_≡_}
 use mathlib.Core.Bool.{Bool, _&&_, _||_}
-use lib.Dec.{leb, eqb}
+use lib.Dec.{leb}
+use Rattle.level.specs.Finest.{highestPower}
 use Rattle.record.specs.declared.Record.{Record}
 use Rattle.record.specs.Sound.{soundTotal, isZero, soundRecord}
 use borrow.Author.Needs.{needs}
@@ -12,7 +13,7 @@ use Rattle.soundness.proofs.record_sound.Tie as tie
 joined :
     (r : Record) {counted head high highs middle middles low levels none free freed none′ free′ all : Bool} →
     counted ≡ (leb 1 (r .count) && leb (r .top) 52) →
-    head ≡ counted && eqb (r .reserved) 0 →
+    head ≡ counted && leb (r .finest) highestPower →
     high ≡ soundTotal (r .count) (r .high) →
     highs ≡ head && high →
     middle ≡ soundTotal (r .count) (r .middle) →

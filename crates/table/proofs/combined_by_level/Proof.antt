@@ -1,5 +1,5 @@
 -- `combined_by_level` is the definition, field by field.
-use Prim.Native.Nat.{ℕ, _+_, _≤_, max}
+use Prim.Native.Nat.{ℕ, _+_, _≤_, max, min}
 use mathlib.Core.Path.{_≡_}
 use native.Mathlib.Omega.{arith}
 use borrow.Author.Needs.{needs}
@@ -20,31 +20,32 @@ top-within c =
     omega (arith, p .top, q .top)
 
 total-below-requires : tie.Need-total-below-requires
-total-below-requires c κs = let s = c .before .before .before in (omega (arith, top-within s, c .before .before .larger .ensures), (s .pre .0, s .pre .1 .0))
+total-below-requires c κs = let s = c .before .before .before .before in (omega (arith, top-within s, c .before .before .before .larger .ensures), (s .pre .0, s .pre .1 .0))
 
 total-below-requires-2 : tie.Need-total-below-requires-2
-total-below-requires-2 c κs = let s = c .before .before .before .before in (omega (arith, top-within s, c .before .before .before .larger .ensures), (s .pre .0, s .pre .1 .0))
+total-below-requires-2 c κs = let s = c .before .before .before .before .before in (omega (arith, top-within s, c .before .before .before .before .larger .ensures), (s .pre .0, s .pre .1 .0))
 
 total-below-requires-3 : tie.Need-total-below-requires-3
-total-below-requires-3 c κs = let s = c .before .before .before .before .before in (omega (arith, top-within s, c .before .before .before .before .larger .ensures), (s .pre .0, s .pre .1 .0))
+total-below-requires-3 c κs = let s = c .before .before .before .before .before .before in (omega (arith, top-within s, c .before .before .before .before .before .larger .ensures), (s .pre .0, s .pre .1 .0))
 
 -- the fields in the code's order; each equation is asked of its own call
 joined :
-    (a b : Record) {t : ℕ} {high middle low : SplitTotal} →
+    (a b : Record) {t z : ℕ} {high middle low : SplitTotal} →
     t ≡ max (a .top) (b .top) →
+    z ≡ min (a .finest) (b .finest) →
     high ≡ splitOf (below (bothAt (meaning a) (meaning b)) t 0) →
     middle ≡ splitOf (below (bothAt (meaning a) (meaning b)) t 1) →
     low ≡ splitOf (below (bothAt (meaning a) (meaning b)) t 2) →
-    record { key = a .key; count = a .count + b .count; top = t; reserved = 0; high = high; middle = middle; low = low } ≡ recordOf (combine (meaning a) (meaning b))
+    record { key = a .key; count = a .count + b .count; top = t; finest = z; high = high; middle = middle; low = low } ≡ recordOf (combine (meaning a) (meaning b))
 unfolding combine
-joined a b e h m l = rw (h, m, l, e)
+joined a b e z h m l = rw (h, m, l, e, z)
 
 returns : tie.Need-returns
 returns c =
-    let s = c .before .before .before .before .before .before in
-    joined (s .args .a) (s .args .b) (c .before .before .before .before .before .larger .ensures) (c .before .before .total-below .ensures) (c .before .total-below2 .ensures) (c .total-below3 .ensures)
+    let s = c .before .before .before .before .before .before .before in
+    joined (s .args .a) (s .args .b) (c .before .before .before .before .before .before .larger .ensures) (c .before .before .before .smaller .ensures) (c .before .before .total-below .ensures) (c .before .total-below2 .ensures) (c .total-below3 .ensures)
 
 pub combined-by-level-spec : {M : Type 1} → statement M
 combined-by-level-spec =
     tie.close
-    (tie.spec (λ c κs. search needs) (λ c. search needs) total-below-requires total-below-requires-2 total-below-requires-3 returns)
+    (tie.spec (λ c κs. search needs) (λ c. search needs) (λ c κs. search needs) total-below-requires total-below-requires-2 total-below-requires-3 returns)

@@ -16,15 +16,16 @@ in-range c = search needs
 returns : tie.Need-returns
 unfolding ofRow
 returns c =
-    let p = c .before .before .before .before .before .before in
+    let f = c .before .before .before .before .before .before in
+    let p = f .before in
     let r = p .contributions-of .result in
     let e = p .contributions-of .ensures in
     let high = c .before .before .before .before .split .ensures ∙ ap splitOf (toZ-ofZ w64 (r .high) (in-range p .0) ∙ ap (λ (x : Contributions). x .high) e) in
     let middle = c .before .before .split2 .ensures ∙ ap splitOf (toZ-ofZ w64 (r .middle) (in-range p .1) ∙ ap (λ (x : Contributions). x .middle) e) in
     let low = c .split3 .ensures ∙ ap splitOf (toZ-ofZ w64 (r .low) (in-range p .2) ∙ ap (λ (x : Contributions). x .low) e) in
-    λ i. record { key = p .before .args .key; count = 1; top = e i .top; reserved = 0; high = high i; middle = middle i; low = low i }
+    λ i. record { key = p .before .args .key; count = 1; top = e i .top; finest = f .finest-power .ensures i; high = high i; middle = middle i; low = low i }
 
 pub row-record-spec : {M : Type 1} → statement M
 row-record-spec =
     tie.close
-    (tie.spec (λ c κs. search needs) (λ c κs. search needs) (λ c κs. search needs) (λ c κs. search needs) returns)
+    (tie.spec (λ c κs. search needs) (λ c κs. search needs) (λ c κs. search needs) (λ c κs. search needs) (λ c κs. search needs) returns)
