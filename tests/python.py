@@ -22,21 +22,26 @@ import girths  # noqa: E402
 HEAD = 'section rows bits hundredths side\n'
 
 
-def pack(rows):
-    return struct.pack(f'<{len(rows)}I', *(k for k, _ in rows)), struct.pack(f'<{len(rows)}d', *(x for _, x in rows))
+LETTERS = {8: 'd', 4: 'f'}
+MARKS = {8: b'LAST', 4: b'LAS4'}
+
+
+def pack(rows, width=8):
+    """Two columns, and the width of their values, which are floats that have it."""
+    return struct.pack(f'<{len(rows)}I', *(k for k, _ in rows)), struct.pack(f'<{len(rows)}{LETTERS[width]}', *(x for _, x in rows)), width
 
 
 def unpack(columns):
-    return list(zip(struct.unpack(f'<{columns.rows}I', columns.keys), struct.unpack(f'<{columns.rows}d', columns.values)))
+    return list(zip(struct.unpack(f'<{columns.rows}I', columns.keys), struct.unpack(f'<{columns.rows}{LETTERS[columns.width]}', columns.values)))
 
 
-def trailer(n, k, v):
-    return struct.pack('<III', n, k, v) + b'LAST'
+def trailer(n, k, v, mark=b'LAST'):
+    return struct.pack('<III', n, k, v) + mark
 
 
-def table_of(rows, groups=64):
+def table_of(rows, groups=64, width=8):
     table = bytearray(64 * groups)
-    return table, girths.add(table, 0, *pack(rows))
+    return table, girths.add(table, 0, *pack(rows, width))
 
 
 def raises(kind, call, *args, **more):
@@ -76,7 +81,7 @@ def report_by_calls(file):
     try:
         columns = girths.read(file)
         table, work = bytearray(64 * 64), bytearray(b'\xff' * 64 * 64)
-        g = girths.add(table, 0, columns.keys, columns.values, work)
+        g = girths.add(table, 0, columns.keys, columns.values, columns.width, work)
         assert not any(work)
     except girths.Refused as e:
         return f'refused {e.number}\n'
@@ -93,7 +98,7 @@ def test_example():
 
 def test_samples():
     files = sorted((ROOT / 'samples').glob('*.patch'))
-    assert len(files) >= 16
+    assert len(files) >= 31
     for path in files:
         data, expected = path.read_bytes(), path.with_suffix('.report').read_text()
         assert girths.report(data).decode() == expected, path
@@ -101,20 +106,23 @@ def test_samples():
         assert girths.report(memoryview(bytearray(data))).decode() == expected, path
 
 
-def made(rows):
+def made(rows, *words):
     """The file that tools/mkpatch makes of rows as text."""
     text = ''.join(f'{key} {x!r}\n' for key, x in rows)
-    return subprocess.run([sys.executable, ROOT / 'tools' / 'mkpatch'], input=text.encode(), capture_output=True, check=True).stdout
+    return subprocess.run([sys.executable, ROOT / 'tools' / 'mkpatch', *words], input=text.encode(), capture_output=True, check=True).stdout
 
 
 def test_rewritten_samples():
-    """Every sample that the reader accepts keeps its rows and its report, and is written as tools/mkpatch writes its rows."""
+    """Every sample of doubles that the reader accepts keeps its rows and its report, and is written as tools/mkpatch writes its rows."""
     files = {}
     for path in sorted((ROOT / 'samples').glob('*.patch')):
         data = path.read_bytes()
         try:
             columns = girths.read(data)
         except girths.Refused:
+            continue
+        if columns.width == 4:
+            refused(9, girths.write, columns.keys, columns.values)
             continue
         n, file = columns.rows, girths.write(columns.keys, columns.values)
         again = girths.read(file)
@@ -132,7 +140,7 @@ def test_rewritten_samples():
 
 
 def test_write():
-    keys, values = map(bytearray, pack([(1, 1.0), (2, -0.0), (1, 5e-324)]))
+    keys, values = map(bytearray, pack([(1, 1.0), (2, -0.0), (1, 5e-324)])[:2])
     before = bytes(keys), bytes(values)
     file = girths.write(keys, values)
     assert type(file) is bytes and file == before[0] + before[1] + trailer(3, 52, 40)
@@ -144,7 +152,7 @@ def test_write():
     r = random.Random(2)
     many = r.randbytes(4 * 5462), r.randbytes(8 * 5462)
     columns = girths.read(girths.write(many[0][:4 * 5460], many[1][:8 * 5460]))
-    assert columns == (5460, many[0][:4 * 5460], many[1][:8 * 5460])
+    assert columns == (5460, many[0][:4 * 5460], many[1][:8 * 5460], 8)
     refused(17, girths.write, many[0][:4 * 5461], many[1][:8 * 5461])
     refused(17, girths.write, *many)
     refused(9, girths.write, many[0], many[1][:8 * 5460])
@@ -155,7 +163,7 @@ def test_write():
 
 def test_output_of_write():
     """Outputs of any length, which the call of the module makes itself."""
-    keys, values = pack([(1, 1.0), (2, -0.0)])
+    keys, values, _ = pack([(1, 1.0), (2, -0.0)])
     file = girths.write(keys, values)
     for room, answer in (0, -16), (39, -16), (40, 40), (41, 40), (70000, 40):
         out = bytearray(b'\xa5' * room)
@@ -169,16 +177,18 @@ def test_refusals():
     key = struct.pack('<I', 1)
     refused(1, girths.read, bytes(65537))
     refused(2, girths.read, b'')
-    refused(7, girths.add, bytearray(), 1, b'', b'')
-    refused(8, girths.add, bytearray(64), 0, b'', b'', bytearray(63))
-    refused(9, girths.add, bytearray(64), 0, bytes(8), bytes(8))
-    refused(10, girths.add, bytearray(64), 0, key, struct.pack('<d', float('nan')))
+    refused(7, girths.add, bytearray(), 1, b'', b'', 8)
+    refused(8, girths.add, bytearray(64), 0, b'', b'', 8, bytearray(63))
+    refused(9, girths.add, bytearray(64), 0, bytes(8), bytes(8), 8)
+    refused(9, girths.add, bytearray(64), 0, bytes(8), bytes(16), 4)
+    refused(10, girths.add, bytearray(64), 0, key, struct.pack('<d', float('nan')), 8)
+    refused(10, girths.add, bytearray(64), 0, key, struct.pack('<f', float('nan')), 4)
     full, g = table_of([(1, 1.0)])
     full[4:8] = b'\xff' * 4
     before = bytes(full)
-    refused(11, girths.add, full, g, key, one)
+    refused(11, girths.add, full, g, key, one, 8)
     refused(11, girths.merge, full, g, bytes(full), g)
-    refused(12, girths.add, bytearray(64), 0, key + struct.pack('<I', 2), one + one)
+    refused(12, girths.add, bytearray(64), 0, key + struct.pack('<I', 2), one + one, 8)
     assert full == before
     refused(13, girths.sum, full, g, 5)
     refused(13, girths.figure, full, 0, 1)
@@ -318,7 +328,7 @@ def test_unsound_finest_powers():
             table[64 * at + 12:64 * at + 16] = struct.pack('<I', z)
             answers = []
             for call, *args in (
-                    (girths.add, bytearray(table), 3, b'', b''), (girths.merge, bytearray(table), 3, b'', 0), (girths.merge, bytearray(192), 0, table, 3), (girths.totals, table, 3),
+                    (girths.add, bytearray(table), 3, b'', b'', 8), (girths.merge, bytearray(table), 3, b'', 0), (girths.merge, bytearray(192), 0, table, 3), (girths.totals, table, 3),
                     (girths.save, table, 3), (girths.load, saved(bytes(table)), bytearray(192)), *((call, table, 3, 1) for call in (girths.sum, girths.exact)),
                     *((call, table, 3, 2) for call in (girths.sum, girths.figure, girths.line, girths.exact))):
                 try:
@@ -401,10 +411,11 @@ def test_totals():
             i = r.randrange(3)
             table, g, held = tables[i]
             second, g2, brought = tables[i - r.randrange(1, 3)]
-            rows = [(r.randrange(7), r.choice((1.5, -0.1, 2.0 ** 900, float('inf') if r.random() < 0.1 else 0.0))) for _ in range(r.randrange(6))]
+            width, huge = r.choice(((8, 2.0 ** 900), (4, 2.0 ** 100)))
+            rows = [(r.randrange(7), r.choice((1.5, -0.1 if width == 8 else -0.125, huge, float('inf') if r.random() < 0.1 else 0.0))) for _ in range(r.randrange(6))]
             try:
                 if r.random() < 0.5:
-                    tables[i] = table, girths.add(table, g, *pack(rows)), held + rows
+                    tables[i] = table, girths.add(table, g, *pack(rows, width)), held + rows
                 else:
                     tables[i] = table, girths.merge(table, g, second, g2), held + brought
             except girths.Refused as e:
@@ -583,7 +594,7 @@ def test_saved_samples():
             continue
         patch, table = path.with_suffix('.patch').read_bytes(), bytearray(4096)
         columns = girths.read(patch)
-        assert girths.add(table, 0, columns.keys, columns.values) == answer and girths.save(table, answer) == data, path
+        assert girths.add(table, 0, *columns[1:]) == answer and girths.save(table, answer) == data, path
         assert check_load(patch, b'\xa5' * 4096) == -3
         other = bytearray(b'\xa5' * 4096)
         g = girths.load(data, other)
@@ -601,10 +612,12 @@ def test_interrupted_tables():
             i, kind = r.randrange(3), r.choice(('add', 'add', 'merge', 'save', 'load'))
             table, g, held = tables[i]
             second, g2, brought = tables[i - r.randrange(1, 3)]
-            rows = [(r.randrange(7), r.choice((1.5, -0.1, 2.0 ** 900, r.random()))) for _ in range(r.randrange(4))]
+            width = r.choice((4, 8))
+            rows = [(r.randrange(7), r.choice((1.5, -0.1, 2.0 ** 900, r.random()) if width == 8 else (1.5, -0.125, 2.0 ** -149, r.getrandbits(24) * 2.0 ** 100))) for _ in range(r.randrange(4))]
             try:
                 if kind == 'add':
-                    tables[i] = table, girths.add(table, g, *pack(rows)), held + rows
+                    tables[i] = table, girths.add(table, g, *pack(rows, width)), held + rows
+                    seen[width] += len(rows) > 0
                 elif kind == 'merge':
                     tables[i] = table, girths.merge(table, g, second, g2), held + brought
                 elif kind == 'save':
@@ -619,7 +632,215 @@ def test_interrupted_tables():
             never, many = table_of(held)
             assert many == g and never[:64 * g] == table[:64 * g] and girths.totals(table, g) == (len({key for key, _ in held}), len(held))
             assert [record_line(table, g, key) for key in keys_of(table, g)] == [record_line(never, g, key) for key in keys_of(never, g)]
-    assert set(seen) == {'add', 'merge', 'save', 'load', ('add', 12), ('merge', 12), ('load', 2), ('load', 16)} and min(seen.values()) > 10, seen
+    assert set(seen) == {4, 8, 'add', 'merge', 'save', 'load', ('add', 12), ('merge', 12), ('load', 2), ('load', 16)} and min(seen.values()) > 10, seen
+
+
+def short_value(bits):
+    """A short float's value as an exact number, by its fields; nothing where it is infinite or not a number."""
+    field, fraction = bits >> 23 & 255, bits & 2 ** 23 - 1
+    if field == 255:
+        return None
+    size = Fraction(fraction if field == 0 else 2 ** 23 + fraction) * Fraction(2) ** (max(field, 1) - 150)
+    return -size if bits >> 31 else size
+
+
+def short_column(patterns):
+    return struct.pack(f'<{len(patterns)}I', *patterns)
+
+
+def double_column(patterns):
+    """The doubles of equal value, with the signs of zeros; an infinity for what is infinite or not a number."""
+    def double(bits):
+        x = short_value(bits)
+        return math.inf if x is None else math.copysign(float(abs(x)), -1 if bits >> 31 else 1)
+    return struct.pack(f'<{len(patterns)}d', *map(double, patterns))
+
+
+def short_patterns(r, n):
+    """Bits of finite short floats: any, subnormal, close together, the largest, with fractions of few digits and of many."""
+    def pattern():
+        fraction = r.choice((0, 1, 2 ** 23 - 1, 2 ** 22, r.getrandbits(23), r.getrandbits(23) >> r.randrange(23)))
+        return r.getrandbits(1) << 31 | r.choice((0, 1, 120 + r.randrange(20), 254, r.randrange(255))) << 23 | fraction
+    return [pattern() for _ in range(n)]
+
+
+def added(table, g, keys, values, width, room):
+    """The answer of an add, what it leaves in a table, and whether the work buffer holds only zeros."""
+    after, work = bytearray(table), bytearray(b'\xa5' * room)
+    try:
+        answer = girths.add(after, g, keys, values, width, work)
+    except girths.Refused as e:
+        answer = -e.number
+    return answer, bytes(after), not any(work)
+
+
+def test_short_floats():
+    """Every exponent field with several fractions and both signs, each alone: the double of equal value, or refusal 10 for the last field."""
+    r, seen, key = random.Random(20), Counter(), struct.pack('<I', 5)
+    for field in range(256):
+        for fraction in 0, 1, 2, 2 ** 22 - 1, 2 ** 22, 2 ** 23 - 2, 2 ** 23 - 1, *(r.getrandbits(23) for _ in range(5)):
+            for sign in 0, 1:
+                bits, before = sign << 31 | field << 23 | fraction, r.randbytes(64)
+                answer, left, clean = short = added(before, 0, key, short_column([bits]), 4, 64)
+                assert short == added(before, 0, key, double_column([bits]), 8, 64) and clean, f'{bits:08X}'
+                if field == 255:
+                    assert (answer, left) == (-10, before), f'{bits:08X}'
+                else:
+                    assert answer == 1 and kept(left) == Fraction(girths.sum(left, 1, 5).sum) == short_value(bits), f'{bits:08X}'
+                seen[field in (0, 255), answer] += 1
+    assert seen == {(False, 1): 254 * 24, (True, 1): 24, (True, -10): 24}, seen
+
+
+def test_short_floats_beside_doubles():
+    """Patches of short floats into tables that hold rows, refused ones among them: the answer, every byte and the work buffer are those of the same rows in doubles."""
+    r, seen = random.Random(21), Counter()
+    for _ in range(3000):
+        patterns, groups = short_patterns(r, r.randrange(12)), r.randrange(6)
+        if patterns and r.random() < 0.1:
+            patterns[r.randrange(len(patterns))] = r.getrandbits(1) << 31 | 255 << 23 | r.choice((0, 1, r.getrandbits(23)))
+        table, g = table_of([(r.randrange(6), r.choice((1.5, -0.1, 1e30, 1e-40))) for _ in range(r.randrange(4))])
+        g = min(g, groups) if r.random() < 0.95 else groups + 1
+        keys = struct.pack(f'<{len(patterns)}I', *(r.randrange(6) for _ in patterns))[r.random() < 0.05:]
+        room = 64 * groups - (groups > 0 and r.random() < 0.05)
+        short, doubles = (added(table[:64 * groups], g, keys, column(patterns), width, room) for column, width in ((short_column, 4), (double_column, 8)))
+        assert short == doubles and short[2], patterns
+        if short[0] not in (-7, -8, -9):
+            assert (short[0] == -10) == (None in map(short_value, patterns)), patterns
+        seen[min(short[0], 0)] += 1
+    assert set(seen) == {0, -7, -8, -9, -10, -12} and min(seen.values()) > 20, seen
+
+
+def test_widths():
+    """Widths of no kind: 7, then 8, then 9, whatever the columns are, and the work buffer holds only zeros. Columns that fit the other width alone: 9."""
+    sound, r = many_records(2), random.Random(22)
+    unsound = sound[:-64] + bytes(64)
+    for width in 0, 1, 2, 3, 5, 6, 7, 9, 12, 16, 32, 64, 2 ** 32, 2 ** 32 + 4, 2 ** 32 + 8, 2 ** 63 + 8, 2 ** 64 - 8, 2 ** 64 - 4, 2 ** 64 - 1, r.getrandbits(64) | 1:
+        for keys, values in (0, 0), (4, 4), (4, 8), (8, 8), (8, 16), (4, min(width, 99)), (5, 8):
+            for fill in 0, 255:
+                columns = bytes(keys), bytes([fill]) * values, width
+                assert added(unsound, 2, *columns, 0) == (-7, unsound, True) and added(sound, 3, *columns, 128) == (-7, sound, True), width
+                assert added(sound, 2, *columns, 127) == (-8, sound, True), width
+                assert added(sound, 2, *columns, 128) == (-9, sound, True), width
+    for n in range(1, 9):
+        for width, other in (4, 8), (8, 4):
+            assert added(bytes(64), 0, bytes(4 * n), bytes(width * n), width, 64)[0] == 1
+            assert added(bytes(64), 0, bytes(4 * n), bytes(width * n), other, 64) == (-9, bytes(64), True)
+    assert added(bytes(64), 0, b'', b'', 4, 64) == added(bytes(64), 0, b'', b'', 8, 64) == (0, bytes(64), True)
+
+
+def read_by_rule(file):
+    """What reading has to answer, and what it has to write out: where the columns start, and the width."""
+    if not 16 <= len(file) <= 65536:
+        return -1 if len(file) > 65536 else -2, [0, 0, 0]
+    n, k, v = struct.unpack('<III', file[-16:-4])
+    width = {mark: width for width, mark in MARKS.items()}.get(file[-4:])
+    if width is None:
+        return -3, [0, 0, 0]
+    if not 4 * n + 16 <= k <= len(file):
+        return -4, [0, 0, 0]
+    if not width * n + 16 <= v <= len(file):
+        return -5, [0, 0, 0]
+    a, b = len(file) - k, len(file) - v
+    if set(range(a, a + 4 * n)) & set(range(b, b + width * n)):
+        return -6, [0, 0, 0]
+    return n, [a, b, width]
+
+
+def check_read(file):
+    """The answer of reading, after a look at all that it writes out and at what the module makes of it."""
+    n, outs = read_by_rule(file)
+    lent, written = girths._Lent('', file), [ctypes.c_uint64(9) for _ in range(3)]
+    found = girths._library().girth_read(*lent.words, *map(ctypes.byref, written))
+    assert (found, [out.value for out in written]) == (n, outs), (found, n, outs)
+    if n < 0:
+        refused(-n, girths.read, file)
+    else:
+        keys, values, width = outs
+        assert girths.read(file) == (n, file[keys:keys + 4 * n], file[values:values + width * n], width)
+    return n
+
+
+def test_files_of_both_kinds():
+    """Files with either mark, and with neither, near every edge: the width is written out, and 0 where the file is refused."""
+    r, seen = random.Random(23), Counter()
+    others = b'LAS5', b'LASt', b'TABL', b'4SAL', b'LAT4', b'MAS4', b'LBS4', bytes(4)
+    for _ in range(20000):
+        n, mark = r.randrange(5), r.choice((*MARKS.values(), r.choice(others)))
+        width = 4 if mark == b'LAS4' else 8
+        length = r.choice(((4 + width) * n, r.randrange(70)))
+        k, v = r.choice(((length + 16, width * n + 16), (4 * n + 16, length + 16), (r.randrange(14, 90), r.randrange(14, 90)), (4 * n + 15 + r.randrange(3), length + 15 + r.randrange(3))))
+        answer = check_read(r.randbytes(length) + trailer(n, k, v + r.choice((0, 0, -1, 1)), mark))
+        seen[mark if mark in MARKS.values() else b'', min(answer, 0)] += 1
+    assert set(seen) == {(b'', -3), *((mark, a) for mark in MARKS.values() for a in (0, -4, -5, -6))} and min(seen.values()) > 100, seen
+    for at, byte in ((at, byte) for at in range(4) for byte in range(256)):
+        for mark in MARKS.values():
+            changed = mark[:at] + bytes([byte]) + mark[at + 1:]
+            assert check_read(bytes(36) + trailer(3, 52, 40, changed)) == (3 if changed in MARKS.values() else -3), changed
+
+
+def test_edges_of_both_kinds():
+    """The most rows of either kind, and the bounds of v and of the overlap, which follow the width."""
+    for width, most in (8, 5460), (4, 8190):
+        def file(n, front=0, **other):
+            fields = {'k': (4 + width) * n + 16, 'v': width * n + 16, **other}
+            return bytes(front + (4 + width) * n) + trailer(n, **fields, mark=MARKS[width])
+        assert len(file(most)) == 65536 and check_read(file(most)) == most
+        assert check_read(file(most + 1)) == check_read(file(most, front=1)) == -1
+        # one row more in a file that is not too long: each column has room alone, and they overlap
+        assert check_read(file(most + 1, k=65536)[4 + width:]) == -6
+        whole = 3 * (4 + width) + 16
+        assert check_read(file(3, v=3 * width + 15)) == check_read(file(3, v=whole + 1)) == -5
+        assert check_read(file(3, v=3 * width + 17)) == check_read(file(3, k=whole - 1)) == -6
+        assert check_read(file(3, front=5, k=whole + 5, v=3 * width + 21)) == check_read(file(3, k=28, v=whole)) == 3
+        assert check_read(file(3, front=5, k=whole + 5, v=3 * width + 22)) == -6
+        for cut in range(1, 17):
+            assert check_read(file(0)[cut:]) == check_read(file(0)[:-cut]) == -2
+
+
+def test_files_of_short_floats_through_tables():
+    """Files of short floats, with their reports and beside those that mkpatch makes; as doubles, which write takes, they have the same."""
+    r = random.Random(24)
+    for n in 0, 1, 2, 7, 63, 500, 5460, 8190:
+        patterns = short_patterns(r, n)
+        keys, short, doubles = struct.pack(f'<{n}I', *(r.randrange(64) for _ in range(n))), short_column(patterns), double_column(patterns)
+        notes = b'' if n == 8190 else b'notes'
+        file = notes + short + keys + trailer(n, 4 * n + 16, 8 * n + 16, b'LAS4')
+        columns = girths.read(file)
+        assert columns == (n, keys, short, 4)
+        table, same = bytearray(4096), bytearray(4096)
+        g = girths.add(table, 0, *columns[1:])
+        assert girths.add(same, 0, keys, doubles, 8) == g and same == table
+        report = girths.report(file)
+        assert report.decode() == report_by_calls(file) and report.endswith(b'total %d %d\n' % (g, n))
+        rows = unpack(columns)
+        assert made(rows, '--short') == keys + short + trailer(n, 8 * n + 16, 4 * n + 16, b'LAS4')
+        assert made(rows, '--short', '--values-first', '--notes', notes.decode()) == file
+        if n <= 5460:
+            assert girths.report(girths.write(keys, doubles)) == girths.report(made(rows)) == report
+        if n > 0:
+            refused(9, girths.write, keys, short)
+
+
+def test_both_kinds_in_one_table():
+    """Rows that are short floats in any order and any split, each part as short floats or as doubles, with saves and loads on the way and a merge at the end: the same bytes."""
+    r, seen = random.Random(25), Counter()
+    for _ in range(300):
+        rows = [(r.randrange(9), x) for x in struct.unpack('<30f', short_column(short_patterns(r, 30)))][r.randrange(30):]
+        expected, groups = table_of(rows)
+        r.shuffle(rows)
+        tables, width = [(bytearray(r.randbytes(4096)), 0), (bytearray(r.randbytes(4096)), 0)], 4
+        while rows:
+            cut, i = r.randrange(1, 9), r.randrange(2)
+            table, g = tables[i]
+            g = girths.add(table, g, *pack(rows[:cut], width))
+            seen[width] += 1
+            if r.random() < 0.3:
+                file, table = girths.save(table, g), bytearray(r.randbytes(4096))
+                assert girths.load(file, table) == g
+            tables[i], rows, width = (table, g), rows[cut:], r.choice((4, 8))
+        (first, g1), (second, g2) = tables
+        assert girths.merge(first, g1, second, g2) == groups and first[:64 * groups] == expected[:64 * groups]
+    assert min(seen[4], seen[8]) > 300, seen
 
 
 def test_same_words_in_rust():
@@ -650,13 +871,21 @@ def test_checks_of_arguments():
     raises(TypeError, girths.write, 'text', b'')
     raises(TypeError, girths.write, b'', None)
     raises(TypeError, girths.write, memoryview(bytes(4)).cast('I'), bytes(8))
-    raises(TypeError, girths.add, bytes(64), 0, b'', b'')
-    raises(TypeError, girths.add, t, 0, b'', b'', bytes(128))
-    raises(TypeError, girths.add, t, 0.0, b'', b'')
-    raises(TypeError, girths.add, t, True, b'', b'')
-    raises(ValueError, girths.add, t, -1, b'', b'')
-    raises(ValueError, girths.add, t, 2 ** 64, b'', b'')
-    refused(7, girths.add, t, 2 ** 64 - 1, b'', b'')
+    raises(TypeError, girths.add, bytes(64), 0, b'', b'', 8)
+    raises(TypeError, girths.add, t, 0, b'', b'', 8, bytes(128))
+    raises(TypeError, girths.add, t, 0.0, b'', b'', 8)
+    raises(TypeError, girths.add, t, True, b'', b'', 8)
+    raises(ValueError, girths.add, t, -1, b'', b'', 8)
+    raises(ValueError, girths.add, t, 2 ** 64, b'', b'', 8)
+    refused(7, girths.add, t, 2 ** 64 - 1, b'', b'', 8)
+    raises(TypeError, girths.add, t, 0, b'', b'')
+    raises(TypeError, girths.add, t, 0, b'', b'', bytearray(128))
+    raises(TypeError, girths.add, t, 0, b'', b'', 4.0)
+    raises(TypeError, girths.add, t, 0, b'', b'', True)
+    raises(TypeError, girths.add, t, 0, b'', b'', None)
+    raises(ValueError, girths.add, t, 0, b'', b'', -4)
+    raises(ValueError, girths.add, t, 0, b'', b'', 2 ** 64)
+    refused(9, girths.add, t, 0, b'', b'', 2 ** 64 - 4)
     raises(ValueError, girths.sum, t, 0, 2 ** 32)
     raises(ValueError, girths.figure, t, 0, -1)
     raises(TypeError, girths.line, t, 0, '1')
@@ -670,12 +899,12 @@ def test_checks_of_arguments():
     raises(ValueError, girths.totals, t, 2 ** 64)
     raises(TypeError, girths.merge, bytes(64), 0, b'', 0)
     raises(ValueError, girths.merge, t, 0, t, 0)
-    raises(ValueError, girths.add, t, 0, b'', b'', t)
-    raises(ValueError, girths.add, t, 0, memoryview(t)[:4], bytes(8))
-    raises(ValueError, girths.add, t, 0, bytes(4), memoryview(t)[120:])
+    raises(ValueError, girths.add, t, 0, b'', b'', 8, t)
+    raises(ValueError, girths.add, t, 0, memoryview(t)[:4], bytes(8), 8)
+    raises(ValueError, girths.add, t, 0, bytes(4), memoryview(t)[120:], 8)
     work = bytearray(128)
-    raises(ValueError, girths.add, t, 0, memoryview(work)[:4], bytes(8), work)
-    raises(ValueError, girths.add, t, 0, bytes(4), memoryview(work)[100:108], work)
+    raises(ValueError, girths.add, t, 0, memoryview(work)[:4], bytes(8), 8, work)
+    raises(ValueError, girths.add, t, 0, bytes(4), memoryview(work)[100:108], 8, work)
     whole = bytearray(256)
     halves = memoryview(whole)[:128], memoryview(whole)[128:]
     assert girths.merge(halves[0], 0, halves[1], 0) == 0

@@ -34,8 +34,8 @@ def closed(tool, *args, descriptor, words, status=1):
 
 # ---- mkpatch
 
-def trailer(n, k, v):
-    return struct.pack('<III', n, k, v) + b'LAST'
+def trailer(n, k, v, mark=b'LAST'):
+    return struct.pack('<III', n, k, v) + mark
 
 
 def test_mkpatch_files():
@@ -60,6 +60,36 @@ def test_mkpatch_limits():
     assert len(run('mkpatch', '--notes', '', data=most)[1]) == 65536
     fails(1, 'at most 65,536', 'mkpatch', data=most + b'1 1\n')
     fails(1, '1 bytes of notes', 'mkpatch', '--notes', 'x', data=most)
+
+
+def test_mkpatch_short_floats():
+    text = b'# two rows\n\n 1 1.5\n4294967295\t-0.001953125\n'
+    keys, values = struct.pack('<II', 1, 4294967295), struct.pack('<ff', 1.5, -2.0 ** -9)
+    keys_first, values_first = trailer(2, 32, 24, b'LAS4'), trailer(2, 24, 32, b'LAS4')
+    assert run('mkpatch', '--short', data=text) == (0, keys + values + keys_first, '')
+    assert run('mkpatch', '--values-first', '--short', '--notes', 'x', data=text) == (0, b'x' + values + keys + values_first, '')
+    assert run('mkpatch', '--short', data=b'') == (0, trailer(0, 16, 16, b'LAS4'), '')
+    # both zeros, the smallest and the largest, the largest subnormal and its neighbour, and the nearest to 0.1, in digits that name their doubles
+    bits = [0, 1 << 31, 1, (1 << 31) + 1, 0x7F7FFFFF, 0xFF7FFFFF, 0x7FFFFF, 0x800000, 0x3DCCCCCD]
+    values = struct.pack(f'<{len(bits)}I', *bits)
+    lines = ''.join(f'3 {x!r}\n' for x in struct.unpack(f'<{len(bits)}f', values))
+    assert run('mkpatch', '--short', data=lines.encode())[1][4 * len(bits):-16] == values
+
+
+def test_mkpatch_refuses_what_is_no_short_float():
+    for word, words in {
+        '0.1': '0.1 is not a short float: the nearest is 0.10000000149011612', '-70.9': 'the nearest is -70.9000015258789', '16777217': 'the nearest is 16777216.0',
+        '1e-50': 'the nearest is 0.0', '-1e-50': 'the nearest is -0.0', '1.4e-45': 'the nearest is 1.401298464324817e-45', '3.4028235e38': 'the nearest is 3.4028234663852886e+38',
+        '1e39': '1e39 is too large for a short float', '-3.4028236e38': 'too large for a short float', '1e999': 'too large for a double', 'x': "'x' is not a length",
+    }.items():
+        fails(1, 'line 2: ', 'mkpatch', '--short', data=b'7 7\n1 ' + word.encode(), also=words)
+        nearest = words.partition('the nearest is ')[2]
+        assert not nearest or run('mkpatch', '--short', data=b'1 ' + nearest.encode())[0] == 0
+    most = b''.join(b'%d 1\n' % (i % 64) for i in range(8190))
+    assert len(run('mkpatch', '--short', data=most)[1]) == 65536
+    fails(1, 'at most 65,536 (8,190 rows of short floats)', 'mkpatch', '--short', data=most + b'1 1\n')
+    fails(1, '1 bytes of notes', 'mkpatch', '--short', '--notes', 'x', data=most)
+    fails(1, 'at most 65,536 (5,460 rows)', 'mkpatch', data=most)
 
 
 def test_mkpatch_refuses():

@@ -1,6 +1,6 @@
 /* A C program over the exported calls: the report of a file by way of girth_report, and again from read, add, line and totals; sums of every side;
- * finest powers and exactness; totals of tables that no rows made; then the file written from its two columns, and what girth_write refuses; last the table saved and loaded, and what
- * girth_save and girth_load refuse. */
+ * finest powers and exactness; totals of tables that no rows made; then the file written from its two columns, and what girth_write refuses; the table saved and loaded, and what
+ * girth_save and girth_load refuse; last short floats beside doubles, files of both kinds, and widths that no value has. */
 #include "girths.h"
 #include <inttypes.h>
 #include <stdio.h>
@@ -45,7 +45,7 @@ static int finishes(void) {
         uint64_t rows[3], minus = i % 2 ? (uint64_t)1 << 63 : 0, bits = sections[i / 2].bits ^ (sum == 0 ? minus : 0);
         int64_t figure = sign * sections[i / 2].figure, side = sign * sections[i / 2].side;
         for (int j = 0; j < 3; j++) rows[j] = sections[i / 2].rows[j] ^ minus;
-        if (girth_add(one, sizeof one, 0, (const uint8_t *)keys, sizeof keys, (const uint8_t *)rows, sizeof rows, work, sizeof work) != 1) return 0;
+        if (girth_add(one, sizeof one, 0, (const uint8_t *)keys, sizeof keys, (const uint8_t *)rows, sizeof rows, 8, work, sizeof work) != 1) return 0;
         if (!gives_sum(1, 7, sum, bits, side) || !gives_sum(1, 8, -13, 0, 0) || !gives_sum(2, 7, -7, 0, 0)) return 0;
         if (!(line == 0 ? gives_line(1, 7, 0, 3, bits, figure, side) : gives_line(1, 7, line, 0, 0, 0, 0))) return 0;
         if (!gives_line(1, 8, -13, 0, 0, 0, 0) || !gives_line(2, 7, -7, 0, 0, 0, 0)) return 0;
@@ -64,7 +64,7 @@ static int makes(uint64_t row, uint64_t second, uint32_t top, uint32_t finest, i
     const uint64_t rows[] = {row, second};
     size_t n = second ? 2 : 1;
     uint32_t fields[4];
-    if (girth_add(one, sizeof one, 0, (const uint8_t *)keys, 4 * n, (const uint8_t *)rows, 8 * n, work, sizeof work) != 1) return 0;
+    if (girth_add(one, sizeof one, 0, (const uint8_t *)keys, 4 * n, (const uint8_t *)rows, 8 * n, 8, work, sizeof work) != 1) return 0;
     memcpy(fields, one, sizeof fields);
     return fields[2] == top && fields[3] == finest && girth_exact(one, sizeof one, 1, 7) == answer && girth_exact(one, sizeof one, 1, 8) == -13;
 }
@@ -201,9 +201,9 @@ static int writes(const uint8_t *keys, const uint8_t *values, uint32_t rows, siz
     for (int i = 0; i < 16; i++) {
         if (trailer[i] != (uint8_t)(fields[i / 4] >> 8 * (i % 4))) return 0;
     }
-    uint64_t keys_at, values_at;
+    uint64_t keys_at, values_at, width;
     return memcmp(out, keys, 4 * (size_t)rows) == 0 && memcmp(out + 4 * (size_t)rows, values, 8 * (size_t)rows) == 0 &&
-           girth_read(out, length, &keys_at, &values_at) == rows && keys_at == 0 && values_at == 4 * (uint64_t)rows;
+           girth_read(out, length, &keys_at, &values_at, &width) == rows && keys_at == 0 && values_at == 4 * (uint64_t)rows && width == 8;
 }
 
 /* The file of these columns in outputs of several lengths, with the report of the file that they were read from. */
@@ -321,6 +321,108 @@ static int goes_on(uint64_t g, uint64_t rows) {
     return girth_save(into, sizeof into, g, out, sizeof out) == length && memcmp(out, kept, (size_t)length) == 0 && untouched_from((size_t)length);
 }
 
+/* An add of one value of this width to a table of which every byte is 0xA5, with a work buffer of which none is 0. */
+static int64_t add_one(uint8_t *into_table, const void *value, size_t width) {
+    static const uint8_t key[4] = {7, 0, 0, 0};
+    memset(into_table, 0xA5, 64);
+    memset(work, 0xA5, sizeof work);
+    return girth_add(into_table, 64, 0, key, sizeof key, value, width, width, work, 64);
+}
+
+static int work_is_zero(size_t n) {
+    for (size_t i = 0; i < n; i++) {
+        if (work[i] != 0) return 0;
+    }
+    return 1;
+}
+
+/* One short float: the table of the double that the compiler's own widening gives, or -10 where it is infinite or not a number. */
+static int widens_one(uint32_t bits) {
+    uint8_t doubles[64], untouched[64];
+    float x;
+    memcpy(&x, &bits, sizeof x);
+    double wide = x;
+    int64_t answer = (bits >> 23 & 255) == 255 ? -10 : 1;
+    memset(untouched, 0xA5, sizeof untouched);
+    if (add_one(one, &bits, 4) != answer || !work_is_zero(64) || add_one(doubles, &wide, 8) != answer) return 0;
+    return memcmp(one, doubles, 64) == 0 && (memcmp(one, untouched, 64) == 0) == (answer < 0);
+}
+
+/* Every exponent field of both signs, with the smallest and the largest fraction and some others. */
+static int widens(void) {
+    uint32_t other = 12345;
+    for (uint32_t head = 0; head < 512; head++) {
+        const uint32_t fractions[] = {0, 1, 2, (1u << 22) - 1, 1u << 22, (1u << 23) - 1};
+        for (size_t i = 0; i < sizeof fractions / sizeof *fractions; i++) {
+            if (!widens_one(head << 23 | fractions[i])) return 0;
+        }
+        for (int i = 0; i < 30; i++) {
+            other = other * 1664525 + 1013904223;
+            if (!widens_one(head << 23 | (other >> 9 >> (i % 23)))) return 0;
+        }
+    }
+    return 1;
+}
+
+/* The answer of an add with columns of these lengths; the table keeps its bytes, and the work buffer holds zeros. */
+static int refuses_width(uint64_t g, size_t keys, size_t values, uint64_t width, size_t room, int64_t answer) {
+    uint8_t lent_before[128];
+    memcpy(lent_before, lent, sizeof lent_before);
+    memset(work, 0xA5, sizeof work);
+    return girth_add(lent, sizeof lent_before, g, columns, keys, columns, values, width, work, room) == answer && work_is_zero(room) &&
+           memcmp(lent, lent_before, sizeof lent_before) == 0;
+}
+
+/* 7, then 8, then 9 for every width but 4 and 8, with columns that fit either, and for those with columns that fit the other alone. */
+static int refuses_widths(void) {
+    static const uint64_t widths[] = {0, 1, 2, 3, 5, 6, 7, 9, 12, 16, (uint64_t)1 << 32, ((uint64_t)1 << 32) + 4, ((uint64_t)1 << 32) + 8, UINT64_MAX - 7, UINT64_MAX - 3, UINT64_MAX};
+    static const struct { size_t keys, values; } lengths[] = {{0, 0}, {4, 4}, {4, 8}, {8, 8}, {8, 16}, {4, 5}, {4, 16}};
+    fill_lent();
+    for (size_t i = 0; i < sizeof widths / sizeof *widths; i++) {
+        for (size_t j = 0; j < sizeof lengths / sizeof *lengths; j++) {
+            size_t keys = lengths[j].keys, values = lengths[j].values;
+            if (!refuses_width(3, keys, values, widths[i], 0, -7) || !refuses_width(2, keys, values, widths[i], 127, -8)) return 0;
+            if (!refuses_width(2, keys, values, widths[i], 128, -9) || !refuses_width(0, keys, values, widths[i], 128, -9)) return 0;
+        }
+    }
+    for (size_t n = 1; n < 9; n++) {
+        if (!refuses_width(2, 4 * n, 4 * n, 8, 128, -9) || !refuses_width(2, 4 * n, 8 * n, 4, 128, -9)) return 0;
+        if (!refuses_width(2, 4 * n, 4 * n, 8, 127, -8) || !refuses_width(3, 4 * n, 8 * n, 4, 128, -7)) return 0;
+    }
+    return refuses_width(2, 0, 0, 4, 128, 2) && refuses_width(2, 0, 0, 8, 128, 2);
+}
+
+/* What girth_read gives of a file of so many bytes before a trailer of these fields. Before a call each number that it gives is 9. */
+static int reads(size_t front, uint32_t n, uint32_t k, uint32_t v, const char *mark, int64_t answer, uint64_t width) {
+    uint64_t keys_at = 9, values_at = 9, w = 9;
+    size_t length = front + 16;
+    const uint32_t fields[] = {n, k, v};
+    memcpy(kept + front, fields, sizeof fields);
+    memcpy(kept + front + sizeof fields, mark, 4);
+    if (girth_read(kept, length, &keys_at, &values_at, &w) != answer || w != width) return 0;
+    return answer < 0 ? keys_at == 0 && values_at == 0 : keys_at == length - k && values_at == length - v;
+}
+
+/* Files of both kinds and of neither: the most rows, one more, and the bounds of the value column and of the overlap, which follow the width. */
+static int reads_both(void) {
+    static const struct { size_t front; uint32_t n, k, v; int64_t doubles, short_floats; } files[] = {
+        {0, 0, 16, 16, 0, 0}, {0, 0, 15, 16, -4, -4}, {0, 0, 16, 17, -5, -5}, {8, 1, 24, 20, -5, 1}, {8, 1, 20, 24, -6, 1}, {12, 1, 28, 24, 1, 1}, {12, 1, 20, 28, 1, 1}, {8, 1, 24, 19, -5, -5},
+        {8, 1, 23, 20, -5, -6}, {12, 1, 28, 25, -6, -6}, {12, 1, 24, 20, -5, 1}, {12, 1, 24, 28, -6, 1}, {12, 1, 20, 29, -5, -5}, {65520, 5460, 65536, 43696, 5460, 5460},
+        {65520, 5461, 65536, 43704, -6, -6}, {65520, 5461, 65536, 43692, -5, 5461}, {65520, 8190, 65536, 32776, -5, 8190}, {65520, 8190, 32776, 65536, -6, 8190}, {65520, 8191, 65536, 32780, -5, -6}, {65520, 8191, 65536, 32779, -5, -5},
+        {65520, 8191, 32779, 65536, -4, -4}, {65521, 8190, 65536, 32776, -1, -1}, {8, 1u << 30, 24, 20, -4, -4}, {8, UINT32_MAX, 24, 20, -4, -4},
+    };
+    static const char *others[] = {"LAS5", "LASt", "LAT4", "LBS4", "MAS4", "TABL", "4SAL"};
+    for (size_t i = 0; i < sizeof files / sizeof *files; i++) {
+        int64_t doubles = files[i].doubles, short_floats = files[i].short_floats;
+        if (!reads(files[i].front, files[i].n, files[i].k, files[i].v, "LAST", doubles, doubles < 0 ? 0 : 8)) return 0;
+        if (!reads(files[i].front, files[i].n, files[i].k, files[i].v, "LAS4", short_floats, short_floats < 0 ? 0 : 4)) return 0;
+        for (size_t j = 0; j < sizeof others / sizeof *others; j++) {
+            if (!reads(files[i].front, files[i].n, files[i].k, files[i].v, others[j], doubles == -1 ? -1 : -3, 0)) return 0;
+        }
+    }
+    return 1;
+}
+
 int main(int argc, char **argv) {
     FILE *in = argc == 2 ? fopen(argv[1], "rb") : NULL;
     if (!in) return 2;
@@ -330,10 +432,10 @@ int main(int argc, char **argv) {
     int64_t n = girth_report(file, length, text, sizeof text);
     if (n < 0 || girth_report(file, length, text, (size_t)n - 1) != -16) return 3;
 
-    uint64_t keys, values;
-    int64_t rows = girth_read(file, length, &keys, &values);
-    if (rows < 0) return 4;
-    int64_t g = girth_add(table, sizeof table, 0, file + keys, 4 * (size_t)rows, file + values, 8 * (size_t)rows, work, sizeof work);
+    uint64_t keys, values, width;
+    int64_t rows = girth_read(file, length, &keys, &values, &width);
+    if (rows < 0 || width != (file[length - 1] == '4' ? 4 : 8)) return 4;
+    int64_t g = girth_add(table, sizeof table, 0, file + keys, 4 * (size_t)rows, file + values, width * (size_t)rows, width, work, sizeof work);
     if (g < 0) return 5;
 
     char again[4096];
@@ -358,13 +460,17 @@ int main(int argc, char **argv) {
     if (!refuses()) return 10;
     if (!refuses_wide()) return 11;
     if (!writes(columns, columns, MOST, LONGEST) || !writes(columns, columns, 0, sizeof out)) return 12;
-    if (!rewrites(file + keys, file + values, (uint32_t)rows, n)) return 13;
+    if (width == 8 && !rewrites(file + keys, file + values, (uint32_t)rows, n)) return 13;
+    if (width == 4 && (write_file(file + keys, 4 * (size_t)rows, file + values, 4 * (size_t)rows, sizeof out) != -9 || !untouched_from(0))) return 13;
     if (!finishes()) return 14;
     if (!counts()) return 16;
     if (!saves()) return 17;
     if (!loads()) return 18;
     if (!goes_on((uint64_t)g, (uint64_t)rows)) return 19;
     if (!answers_exact()) return 20;
+    if (!widens()) return 21;
+    if (!refuses_widths()) return 22;
+    if (!reads_both()) return 23;
     fwrite(text, 1, (size_t)n, stdout);
     return 0;
 }

@@ -1,5 +1,6 @@
 //! Times of the library's calls beside plain sums, in one run.
 mod level;
+use girths::Kind;
 use std::collections::{BTreeMap, HashMap};
 use std::hint::black_box;
 use std::time::Instant;
@@ -61,6 +62,11 @@ fn rows(sections: u64, run: usize) -> (Vec<u8>, Vec<u8>) {
     (keys, values)
 }
 
+/// The same lengths as short floats.
+fn shortened(v: &[u8]) -> Vec<u8> {
+    v.chunks_exact(8).flat_map(|c| (f64::from_le_bytes(c.try_into().unwrap()) as f32).to_le_bytes()).collect()
+}
+
 fn pairs<'a>(k: &'a [u8], v: &'a [u8]) -> impl Iterator<Item = (u32, f64)> + 'a {
     let keys = k.chunks_exact(4).map(|c| u32::from_le_bytes(c.try_into().unwrap()));
     keys.zip(v.chunks_exact(8).map(|c| f64::from_bits(u64::from_le_bytes(c.try_into().unwrap()))))
@@ -78,19 +84,24 @@ fn adding(name: &str, sections: u64, run: usize) {
     let mut table = vec![0u8; 65536];
     let mut work = vec![0u8; 65536];
     // the two level methods agree on the first record
-    girths::add(&mut table, 0, &k, &v, &mut work).unwrap();
+    girths::add(&mut table, 0, &k, &v, Kind::Double, &mut work).unwrap();
     let mut levels = level::Levels::default();
     levels.add(&k, &v);
     let (count, top, carry, residue) = levels.first();
     assert_eq!(table[4..12], [count.to_le_bytes(), top.to_le_bytes()].concat());
     assert_eq!(table[16..32], [(residue as u64).to_le_bytes(), (carry as i64).to_le_bytes()].concat());
     let (mut held, mut held_work, mut held_g) = (vec![0u8; 65536], vec![0u8; 65536], 0);
+    let short = shortened(&v);
+    let (mut short_table, mut short_work) = (vec![0u8; 65536], vec![0u8; 65536]);
     let mut candidates: Vec<(&'static str, Box<dyn FnMut()>)> = vec![
         ("add", Box::new(|| {
-            black_box(girths::add(&mut table, 0, black_box(&k), black_box(&v), &mut work).unwrap());
+            black_box(girths::add(&mut table, 0, black_box(&k), black_box(&v), Kind::Double, &mut work).unwrap());
+        })),
+        ("add, short floats", Box::new(|| {
+            black_box(girths::add(&mut short_table, 0, black_box(&k), black_box(&short), Kind::Single, &mut short_work).unwrap());
         })),
         ("add, sections held already", Box::new(|| {
-            held_g = girths::add(&mut held, held_g, black_box(&k), black_box(&v), &mut held_work).unwrap();
+            held_g = girths::add(&mut held, held_g, black_box(&k), black_box(&v), Kind::Double, &mut held_work).unwrap();
         })),
         ("BTreeMap<u32, f64>", Box::new(|| {
             let mut m = BTreeMap::new();
@@ -122,7 +133,7 @@ fn filled(sections: u64, shift: u32) -> (Vec<u8>, u64) {
     for part in 0..4 {
         let keys: Vec<u8> = (0..sections as u32).flat_map(|i| (i * 2 + shift).to_le_bytes()).collect();
         let values: Vec<u8> = (0..sections).flat_map(|i| (i as f64 * 1.37 - part as f64 * 100.1).to_bits().to_le_bytes()).collect();
-        g = girths::add(&mut table, g, &keys, &values, &mut work).unwrap();
+        g = girths::add(&mut table, g, &keys, &values, Kind::Double, &mut work).unwrap();
     }
     (table, g)
 }

@@ -1,4 +1,4 @@
-/* Reads a patch file named on the command line, and prints each section's sum in millimetres, and which way it was rounded.
+/* Reads a patch file of doubles or of short floats named on the command line, and prints each section's sum in millimetres, and which way it was rounded.
  *
  * From the root of the repository:
  *
@@ -54,10 +54,11 @@ int main(int argc, char **argv) {
         fprintf(stderr, "example: %s cannot be read\n", argv[1]);
         return 2;
     }
-    uint64_t keys, values;
-    int64_t rows = girth_read(file, length, &keys, &values);
+    uint64_t keys, values, width;
+    int64_t rows = girth_read(file, length, &keys, &values, &width);
     if (rows < 0) return refused(rows);
-    int64_t g = girth_add(table, sizeof table, 0, file + keys, 4 * (size_t)rows, file + values, 8 * (size_t)rows, work, sizeof work);
+    size_t n = (size_t)rows;
+    int64_t g = girth_add(table, sizeof table, 0, file + keys, 4 * n, file + values, width * n, width, work, sizeof work);
     if (g < 0) return refused(g);
     return print_sections((uint64_t)g);
 }

@@ -15,18 +15,21 @@
 extern "C" {
 #endif
 
-/* The row count of a patch file, or -1 to -6. The columns start so many bytes after the front: 4n bytes of keys, 8n of values. */
-int64_t girth_read(const uint8_t *file, size_t file_len, uint64_t *keys_at, uint64_t *values_at);
+/* The row count of a patch file, or -1 to -6. The columns start so many bytes after the front: 4n bytes of keys, and width x n of values. The width is
+ * 8 in a file of doubles and 4 in one of short floats (binary32), as the mark tells; -3 where it is neither mark. */
+int64_t girth_read(const uint8_t *file, size_t file_len, uint64_t *keys_at, uint64_t *values_at, uint64_t *width);
 
-/* Writes a patch file of two columns, 4n bytes of keys and 8n of values, at the front of out: the file's length, 12n + 16. Refused, in this
+/* Writes a patch file of two columns, 4n bytes of keys and 8n of doubles, at the front of out: the file's length, 12n + 16. Refused, in this
  * order: -9 where no n fits both columns, -17 where n is more than 5,460, -16 where out is shorter than the file. The file has no notes, its
  * keys stand before its values, and every value is written as it stands, infinite ones too. The bytes of out after the file are untouched. */
 int64_t girth_write(const uint8_t *keys, size_t keys_len, const uint8_t *values, size_t values_len, uint8_t *out, size_t out_len);
 
 /* Adds the rows of two columns to a table of g records: the new group count, or -7 to -12. A table has 64 bytes a group, 1,024 groups at
- * most. The work buffer is at least as long as the table, and holds only zeros afterwards. */
+ * most. The width is that of a value, as girth_read gives it: 8 for doubles, 4 for short floats, each of which counts as the double of equal value; both may go
+ * into one table. Any other width is refused whatever the lengths are: -9, where neither -7 nor -8 holds. The work buffer is at least as long as the table, and holds only zeros
+ * afterwards. */
 int64_t girth_add(uint8_t *table, size_t table_len, uint64_t g, const uint8_t *keys, size_t keys_len, const uint8_t *values,
-                  size_t values_len, uint8_t *work, size_t work_len);
+                  size_t values_len, uint64_t width, uint8_t *work, size_t work_len);
 
 /* Merges a table of g2 records into one of g1: the first one's new group count, or -7, -11 or -12. */
 int64_t girth_merge(uint8_t *first, size_t first_len, uint64_t g1, const uint8_t *second, size_t second_len, uint64_t g2);
@@ -60,7 +63,7 @@ int64_t girth_save(const uint8_t *table, size_t table_len, uint64_t g, uint8_t *
  * field is wrong, -16 where the table is shorter than 64g bytes, -7 where the records are not sound. */
 int64_t girth_load(const uint8_t *file, size_t file_len, uint8_t *table, size_t table_len);
 
-/* The report of a patch file, at the front of out: the length of its text, at most 4,096 bytes, or -16 where out is shorter than the text. */
+/* The report of a patch file of either width, at the front of out: the length of its text, at most 4,096 bytes, or -16 where out is shorter than the text. */
 int64_t girth_report(const uint8_t *file, size_t file_len, uint8_t *out, size_t out_len);
 
 #ifdef __cplusplus

@@ -4,7 +4,7 @@
     >>> file = pathlib.Path('samples/two-sections.patch').read_bytes()
     >>> columns = girths.read(file)
     >>> table = bytearray(64 * 64)
-    >>> g = girths.add(table, 0, columns.keys, columns.values)
+    >>> g = girths.add(table, 0, columns.keys, columns.values, columns.width)
     >>> girths.sum(table, g, 1), girths.figure(table, g, 1)
     (Sum(sum=1.5, side=0), 150)
     >>> girths.line(table, g, 2)
@@ -22,9 +22,13 @@
     >>> other = bytearray(64 * 64)
     >>> girths.load(saved, other), other == table
     (2, True)
+    >>> short = girths.read(pathlib.Path('samples/two-sections-short.patch').read_bytes())
+    >>> same = bytearray(64 * 64)
+    >>> short.width, girths.add(same, 0, short.keys, short.values, short.width), same == table
+    (4, 2, True)
 
 A table is a writable buffer, 64 bytes a section, with a group count g that the caller holds; it starts at 0. What a table holds depends on the
-multiset of its rows alone. A call that is refused raises Refused and changes no byte of a table. docs/FORMATS.md has the bytes, docs/RULES.md
+multiset of its rows alone. A value has a width of 8 bytes, a double, or of 4, a short float (binary32), which counts as the double of equal value. A call that is refused raises Refused and changes no byte of a table. docs/FORMATS.md has the bytes, docs/RULES.md
 the rules and the refusals.
 
 The library is target/staticlib/libexports.a of the repository that this file lies in, linked to target/girths.so by `cc` when it is first
@@ -49,13 +53,13 @@ LONGEST_REPORT = 4096
 GROUNDS = {
     1: 'the file is longer than 65,536 bytes',
     2: 'the file is shorter than 16 bytes',
-    3: 'the last four bytes are not the mark',
+    3: 'the last four bytes are not a mark of such a file',
     4: 'the key column does not lie between the front of the file and the trailer',
     5: 'the value column does not lie between the front of the file and the trailer',
     6: 'the two columns share a byte',
     7: 'the table is not sound',
     8: 'the work buffer is shorter than the table',
-    9: 'the lengths of the two columns fit no row count',
+    9: 'the lengths of the two columns fit no row count for the width of the values',
     10: 'a row is infinite or not a number',
     11: 'a section would have more than 4,294,967,295 rows',
     12: 'the table has no room for all keys',
@@ -82,10 +86,11 @@ class NotBuilt(Exception):
 
 
 class Columns(NamedTuple):
-    """The two columns of a patch file, as parts of it."""
+    """The two columns of a patch file, as parts of it, and how many bytes a value has: 8 for a double, 4 for a short float."""
     rows: int
     keys: memoryview
     values: memoryview
+    width: int
 
 
 class Sum(NamedTuple):
@@ -145,9 +150,9 @@ _BYTES, _LENGTH, _NUMBER = ctypes.c_void_p, ctypes.c_size_t, ctypes.c_uint64
 _OUT, _SIGNED_OUT = ctypes.POINTER(ctypes.c_uint64), ctypes.POINTER(ctypes.c_int64)
 _TABLE = [_BYTES, _LENGTH, _NUMBER]
 _TYPES = {
-    'girth_read': [_BYTES, _LENGTH, _OUT, _OUT],
+    'girth_read': [_BYTES, _LENGTH, _OUT, _OUT, _OUT],
     'girth_write': 3 * [_BYTES, _LENGTH],
-    'girth_add': _TABLE + 3 * [_BYTES, _LENGTH],
+    'girth_add': _TABLE + 2 * [_BYTES, _LENGTH] + [_NUMBER, _BYTES, _LENGTH],
     'girth_merge': _TABLE + _TABLE,
     'girth_sum': _TABLE + [ctypes.c_uint32, _OUT, _SIGNED_OUT],
     'girth_figure': _TABLE + [ctypes.c_uint32, _SIGNED_OUT],
@@ -256,19 +261,21 @@ def bits(x):
 # ---- the calls
 
 def read(file):
-    """The columns of a patch file, or refusals 1 to 6."""
+    """The columns of a patch file of doubles or of short floats, and the width of its values, or refusals 1 to 6."""
     lent = _Lent('a file', file)
-    at = ctypes.c_uint64(), ctypes.c_uint64()
-    n = _answer(_library().girth_read(*lent.words, *map(ctypes.byref, at)))
-    keys, values = at[0].value, at[1].value
-    if keys + 4 * n > lent.length or values + 8 * n > lent.length:
+    outs = ctypes.c_uint64(), ctypes.c_uint64(), ctypes.c_uint64()
+    n = _answer(_library().girth_read(*lent.words, *map(ctypes.byref, outs)))
+    keys, values, width = (out.value for out in outs)
+    if width not in (4, 8):
+        raise RuntimeError(f'the library gave the width {width}, which has no meaning')
+    if keys + 4 * n > lent.length or values + width * n > lent.length:
         raise RuntimeError('the library gave a column that does not lie within the file')
     view = memoryview(file).cast('B')
-    return Columns(n, view[keys:keys + 4 * n], view[values:values + 8 * n])
+    return Columns(n, view[keys:keys + 4 * n], view[values:values + width * n], width)
 
 
 def write(keys, values):
-    """A patch file of two columns, as bytes: keys, values and trailer, without notes. Or refusals 9 and 17.
+    """A patch file of two columns, the second one of doubles, as bytes: keys, values and trailer, without notes. Or refusals 9 and 17.
 
     Values are not looked at: infinite ones are written as they stand."""
     columns = _Lent('a key column', keys), _Lent('a value column', values)
@@ -279,17 +286,18 @@ def write(keys, values):
     return file
 
 
-def add(table, g, keys, values, work=None):
+def add(table, g, keys, values, width, work=None):
     """Adds the rows of two columns to a table of g records: the new group count, or refusals 7 to 12.
 
+    The width is that of a value, as read gives it: 8 for doubles, 4 for short floats. Both may go into one table; another width is refused with 9.
     The work buffer is at least as long as the table and holds only zeros afterwards; without one, one is made."""
     into = _Lent('a table', table, writable=True)
     space = _Lent('a work buffer', bytearray(into.length) if work is None else work, writable=True)
     columns = _Lent('a key column', keys), _Lent('a value column', values)
     _apart(into, space, *columns)
     _apart(space, *columns)
-    g = _whole('a group count', g, 64)
-    return _groups(_library().girth_add(*into.words, g, *columns[0].words, *columns[1].words, *space.words), into)
+    g, width = _whole('a group count', g, 64), _whole('a width', width, 64)
+    return _groups(_library().girth_add(*into.words, g, *columns[0].words, *columns[1].words, width, *space.words), into)
 
 
 def merge(first, g1, second, g2):

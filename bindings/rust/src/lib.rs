@@ -1,7 +1,7 @@
 //! Safe calls of the proved library for reproducible grouped summation.
 //!
 //! Rows of (section, double) are added to a table of 64-byte records; a table's bytes and a section's sum depend on the multiset of rows
-//! alone, whatever their order, their splits and their merges. docs/FORMATS.md has the bytes, docs/RULES.md the rules and the refusals.
+//! alone, whatever their order, their splits and their merges. A short float (binary32) counts as the double of equal value. docs/FORMATS.md has the bytes, docs/RULES.md the rules and the refusals.
 //!
 //! The caller holds a table as a buffer and its group count `g`, which starts at 0. Each call is total: it refuses what is wrong with a
 //! [`Refusal`], and a refused call changes no byte of a table, nor of an output.
@@ -15,10 +15,11 @@
 //!
 //! let columns = girths::read(&file)?;
 //! assert_eq!((columns.rows, columns.keys, columns.values), (3, &keys[..], &values[..]));
+//! assert_eq!(columns.kind, girths::Kind::Double);
 //!
 //! let mut table = [0u8; 64 * 64];
 //! let mut work = [0u8; 64 * 64];
-//! let g = girths::add(&mut table, 0, columns.keys, columns.values, &mut work)?;
+//! let g = girths::add(&mut table, 0, columns.keys, columns.values, columns.kind, &mut work)?;
 //! assert_eq!(g, 2);
 //!
 //! let line = girths::line(&table, g, 1)?;
@@ -29,11 +30,21 @@
 //!
 //! // the same rows as two patches on two tables, merged
 //! let mut other = [0u8; 64 * 64];
-//! let h = girths::add(&mut other, 0, &columns.keys[4..], &columns.values[8..], &mut work)?;
+//! let h = girths::add(&mut other, 0, &columns.keys[4..], &columns.values[8..], columns.kind, &mut work)?;
 //! let mut first = [0u8; 64 * 64];
-//! let f = girths::add(&mut first, 0, &columns.keys[..4], &columns.values[..8], &mut work)?;
+//! let f = girths::add(&mut first, 0, &columns.keys[..4], &columns.values[..8], columns.kind, &mut work)?;
 //! assert_eq!(girths::merge(&mut first, f, &other, h)?, g);
 //! assert_eq!(first, table);
+//!
+//! // the same rows once more, as short floats: 8 bytes a row, and a trailer with the other mark
+//! let short = [1f32, 0.125, 0.5].map(f32::to_le_bytes).concat();
+//! let trailer = [3u32, 40, 28].map(u32::to_le_bytes).concat();
+//! let file = [&keys[..], &short, &trailer, b"LAS4"].concat();
+//! let columns = girths::read(&file)?;
+//! assert_eq!((columns.rows, columns.values, columns.kind), (3, &short[..], girths::Kind::Single));
+//! let mut same = [0u8; 64 * 64];
+//! assert_eq!(girths::add(&mut same, 0, columns.keys, columns.values, columns.kind, &mut work)?, g);
+//! assert_eq!(same, table);
 //!
 //! // the table kept in a file: 64 bytes a group, and a trailer of 16; loaded elsewhere, it goes on
 //! let mut file = [0u8; 64 * 64 + 16];
@@ -46,12 +57,12 @@
 //!
 //! // 1 + 2^-54 is no double: the nearest is 1, which is below it
 //! let values = [1f64, 2f64.powi(-54)].map(f64::to_le_bytes).concat();
-//! let g = girths::add(&mut table, 0, &[0; 8], &values, &mut work)?;
+//! let g = girths::add(&mut table, 0, &[0; 8], &values, girths::Kind::Double, &mut work)?;
 //! assert_eq!(girths::sum(&table, g, 0)?, girths::Sum { bits: 1f64.to_bits(), side: -1 });
 //! // the table keeps 1 + 2^-54 all the same, but of 1 + 2^-115 it does not keep the last digit
 //! assert_eq!(girths::exact(&table, g, 0)?, girths::Exactness::Exact);
 //! let values = [1f64, 2f64.powi(-115)].map(f64::to_le_bytes).concat();
-//! let g = girths::add(&mut table, 0, &[0; 8], &values, &mut work)?;
+//! let g = girths::add(&mut table, 0, &[0; 8], &values, girths::Kind::Double, &mut work)?;
 //! assert_eq!(girths::exact(&table, g, 0)?, girths::Exactness::NotKnown);
 //! # Ok::<(), girths::Refusal>(())
 //! ```
@@ -61,13 +72,13 @@ use std::fmt;
 // Safety of the calls below: each passes the pointer and the length of one slice, which is never null and holds so many bytes; a slice that is
 // written to is borrowed alone, so that it overlaps no other; the library is proved to stay within the lengths.
 extern "C" {
-    fn girth_read(file: *const u8, file_len: usize, keys_at: *mut u64, values_at: *mut u64) -> i64;
+    fn girth_read(file: *const u8, file_len: usize, keys_at: *mut u64, values_at: *mut u64, width: *mut u64) -> i64;
     fn girth_write(
         keys: *const u8, keys_len: usize, values: *const u8, values_len: usize, out: *mut u8, out_len: usize,
     ) -> i64;
     fn girth_add(
         table: *mut u8, table_len: usize, g: u64, keys: *const u8, keys_len: usize, values: *const u8, values_len: usize,
-        work: *mut u8, work_len: usize,
+        width: u64, work: *mut u8, work_len: usize,
     ) -> i64;
     fn girth_merge(first: *mut u8, first_len: usize, g1: u64, second: *const u8, second_len: usize, g2: u64) -> i64;
     fn girth_sum(table: *const u8, table_len: usize, g: u64, key: u32, bits: *mut u64, side: *mut i64) -> i64;
@@ -89,13 +100,13 @@ pub struct Refusal(u32);
 const GROUNDS: [&str; 19] = [
     "the file is longer than 65,536 bytes",
     "the file is shorter than 16 bytes",
-    "the last four bytes are not the mark",
+    "the last four bytes are not a mark of such a file",
     "the key column does not lie between the front of the file and the trailer",
     "the value column does not lie between the front of the file and the trailer",
     "the two columns share a byte",
     "the table is not sound",
     "the work buffer is shorter than the table",
-    "the lengths of the two columns fit no row count",
+    "the lengths of the two columns fit no row count for the width of the values",
     "a row is infinite or not a number",
     "a section would have more than 4,294,967,295 rows",
     "the table has no room for all keys",
@@ -123,6 +134,25 @@ impl fmt::Display for Refusal {
 
 impl std::error::Error for Refusal {}
 
+/// What the values of a column are.
+#[derive(Debug, PartialEq, Eq, Clone, Copy, Hash)]
+pub enum Kind {
+    /// Doubles (binary64).
+    Double,
+    /// Short floats (binary32), each of which counts as the double of equal value.
+    Single,
+}
+
+impl Kind {
+    /// How many bytes a value has: 8 or 4.
+    pub fn width(self) -> usize {
+        match self {
+            Kind::Double => 8,
+            Kind::Single => 4,
+        }
+    }
+}
+
 /// The two columns of a patch file, as parts of it.
 #[derive(Debug, PartialEq, Clone, Copy)]
 pub struct Columns<'a> {
@@ -130,8 +160,10 @@ pub struct Columns<'a> {
     pub rows: usize,
     /// The key column: a 32-bit section number for each row.
     pub keys: &'a [u8],
-    /// The value column: a double for each row.
+    /// The value column: a double or a short float for each row.
     pub values: &'a [u8],
+    /// Which of the two, as the file's mark says.
+    pub kind: Kind,
 }
 
 /// A section's sum.
@@ -190,6 +222,15 @@ fn exactness(r: i64) -> Result<Exactness, Refusal> {
     }
 }
 
+/// The kind of value that has so many bytes.
+fn kind(width: u64) -> Kind {
+    match width {
+        8 => Kind::Double,
+        4 => Kind::Single,
+        w => panic!("the library gave the width {w}, which has no meaning"),
+    }
+}
+
 /// The column of so many bytes from a place on, which lies within the file.
 fn column(file: &[u8], at: u64, bytes: usize) -> &[u8] {
     let start = usize::try_from(at).ok();
@@ -211,19 +252,19 @@ fn length(r: i64, room: usize) -> Result<usize, Refusal> {
     Ok(n as usize)
 }
 
-/// Reads a patch file: its columns, or refusals 1 to 6.
+/// Reads a patch file of doubles or of short floats: its columns and the kind of its values, or refusals 1 to 6.
 pub fn read(file: &[u8]) -> Result<Columns<'_>, Refusal> {
-    let (mut k, mut v) = (u64::MAX, u64::MAX);
-    let n = answer(unsafe { girth_read(file.as_ptr(), file.len(), &mut k, &mut v) });
+    let (mut k, mut v, mut w) = (u64::MAX, u64::MAX, u64::MAX);
+    let n = answer(unsafe { girth_read(file.as_ptr(), file.len(), &mut k, &mut v, &mut w) });
     if n.is_err() {
-        assert_eq!((k, v), (0, 0), "a refused file has no columns");
+        assert_eq!((k, v, w), (0, 0, 0), "a refused file has no columns");
     }
-    let n = n? as usize;
-    assert!(n <= file.len() / 12, "the library gave more rows than the file has");
-    Ok(Columns { rows: n, keys: column(file, k, 4 * n), values: column(file, v, 8 * n) })
+    let (n, kind) = (n? as usize, kind(w));
+    assert!(n <= file.len() / (4 + kind.width()), "the library gave more rows than the file has");
+    Ok(Columns { rows: n, keys: column(file, k, 4 * n), values: column(file, v, kind.width() * n), kind })
 }
 
-/// Writes a patch file of two columns, without notes, to the front of an output, and gives its length: the two columns and a trailer of 16 bytes.
+/// Writes a patch file of two columns, the second one of doubles, without notes, to the front of an output, and gives its length: the two columns and a trailer of 16 bytes.
 /// Refused, in this order: 9 where the lengths of the columns fit no row count, 17 where there are more than 5,460 rows, 16 where the output is
 /// shorter than the file. Values are not looked at. Bytes after the file are untouched, and so is the whole output when the call is refused.
 pub fn write(keys: &[u8], values: &[u8], out: &mut [u8]) -> Result<usize, Refusal> {
@@ -233,12 +274,13 @@ pub fn write(keys: &[u8], values: &[u8], out: &mut [u8]) -> Result<usize, Refusa
     Ok(n)
 }
 
-/// Adds rows to a table of g records, and gives its new group count, or refusals 7 to 12. The work buffer is at least as long as the table, and
-/// holds only zeros afterwards.
-pub fn add(table: &mut [u8], g: u64, keys: &[u8], values: &[u8], work: &mut [u8]) -> Result<u64, Refusal> {
+/// Adds rows to a table of g records, and gives its new group count, or refusals 7 to 12. The values are of a kind, as [`read`] gives it; both kinds may go
+/// into one table. The work buffer is at least as long as the table, and holds only zeros afterwards.
+pub fn add(table: &mut [u8], g: u64, keys: &[u8], values: &[u8], kind: Kind, work: &mut [u8]) -> Result<u64, Refusal> {
     let r = unsafe {
         girth_add(
-            table.as_mut_ptr(), table.len(), g, keys.as_ptr(), keys.len(), values.as_ptr(), values.len(), work.as_mut_ptr(), work.len(),
+            table.as_mut_ptr(), table.len(), g, keys.as_ptr(), keys.len(), values.as_ptr(), values.len(), kind.width() as u64,
+            work.as_mut_ptr(), work.len(),
         )
     };
     groups(r, table.len())
@@ -347,6 +389,19 @@ mod tests {
     #[should_panic(expected = "the answer 2, which has no meaning")]
     fn a_section_is_exact_or_that_is_not_known() {
         let _ = super::exactness(2);
+    }
+
+    #[test]
+    fn a_width_is_told_by_its_bytes() {
+        for (width, kind) in [(8, super::Kind::Double), (4, super::Kind::Single)] {
+            assert_eq!((super::kind(width), kind.width() as u64), (kind, width));
+        }
+    }
+
+    #[test]
+    #[should_panic(expected = "the width 0, which has no meaning")]
+    fn an_accepted_file_has_a_width() {
+        super::kind(0);
     }
 
     #[test]

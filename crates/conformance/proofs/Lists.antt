@@ -11,8 +11,10 @@ use Rattle.record.specs.Section.{Section, find, kept}
 use Rattle.history.specs.Rows.{SameRows, sectionBits}
 use Rattle.history.specs.Calls.{Question, exactness, totals, Call, ask}
 use Rattle.history.specs.Run.{Store, State, Answer, exactnessIs, stateAfter, answer, answers, askTable, askRows}
+use Rattle.history.specs.AsDoubles.{callsAsDoubles}
 use Rattle.history.specs.Demand3.{History, empty, rows, table, used, sectionsIn}
 use Rattle.history.proofs.Demand.{demand3}
+use Rattle.history.proofs.AsDoubles.{same-as-doubles}
 use Rattle.conformance.specs.Worked.{Worked, done, next, CarriedOut, WorkedIs}
 use Rattle.conformance.proofs.Steps.{steps}
 use Rattle.conformance.proofs.Possible.{all-possible}
@@ -57,6 +59,10 @@ worked-is = record {
       sym (steps s (ask i q) x t c .0) ∙ same-table h h′ xs xs′ s s′ w w′ i j e .2 q ∙ steps s′ (ask j q) x′ t′ c′ .0;
   totals-counted = λ h xs s w i x t c. sym (steps s (ask i totals) x t c .0) ∙ ap (λ (u : Store). askTable u totals) (table-is h xs s w i) ∙ demand3 .fixed-answer h i totals;
   exact-told = λ h xs s w i k t c. told-of (table-is h xs s w i) k (exactSum (sectionBits k (rows h i))) (demand3 .exact-kept h i k) (steps s (ask i (exactness k)) (exactnessIs (accepted true)) t c .0);
+  same-in-doubles = λ s cs xs xs′ s′ s″ w d.
+      let p = worked s cs xs s′ w in
+      let q = worked s (callsAsDoubles cs) xs′ s″ d in
+      (sym (p .0) ∙ sym (same-as-doubles .same-answers s cs) ∙ q .0, sym (p .1) ∙ sym (same-as-doubles .same-state s cs) ∙ q .1);
   possible = all-possible;
   buffer-cleared = λ κs a z e l. l .1 .1;
   girth-buffer-cleared = λ κs a z e l. l .1 .1;

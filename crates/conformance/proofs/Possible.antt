@@ -8,14 +8,16 @@ use contract.Lifetimes.{Lfts}
 use borrow.Fn.Kinds.{Dens, endedOf, resT}
 use denote.Triple.Clauses.{AtExit}
 use denote.Ref.{RefT, now}
-use Rattle.columns.specs.declared.Kind.the-variants.{Double}
-use Rattle.table.specs.Calls.{addOutcome, addLeaves, cleared, mergeOutcome, mergeLeaves}
+use Rattle.columns.specs.Columns.{width}
+use Rattle.table.specs.Calls.{cleared, mergeOutcome, mergeLeaves}
 use Rattle.limbs.specs.Side.{sideNumber}
 use Rattle.finish.specs.Finish.{RoundedSum, sumOutcome, figureOutcome, lineOutcome}
 use Rattle.finish.specs.Exact.{exactnessOutcome}
 use Rattle.finish.specs.declared.FinishedLine.{FinishedLine}
 use Rattle.totals.specs.declared.TableTotals.{TableTotals}
 use Rattle.totals.specs.Totals.{totalsOutcome}
+use Rattle.exports.specs.Width.{kindOfWidth, addOfWidth, addOfWidthLeaves}
+use Rattle.exports.proofs.Widths.{width-back}
 use Rattle.exports.specs.Calls.{returnsCount, returnsZero, returnsFlag, writes, doubleBits}
 use Rattle.checkpoint.specs.Calls.{saveOutcome, saveLeaves, loadOutcome, loadLeaves}
 use Rattle.history.specs.Calls.{sum, figure, line, exactness, totals, Call, add, merge, ask, save, load}
@@ -67,13 +69,14 @@ one-possible s (ask i totals) =
 one-possible s (merge i j d) =
     let b = s .tables i .buffer in let g = s .tables i .groups in let b′ = s .tables j .buffer in let g′ = s .tables j .groups in
     (_, _, by-girth-merge i j d ([], ([], tt)) (ref b, (g, (ref b′, (g′, tt)))) (returnsCount (mergeOutcome b g b′ g′)) (ref (mergeLeaves b g b′ g′), (g, (ref b′, (g′, tt)))) (refl, refl) (refl, refl) (refl, refl))
-one-possible s (add i Double ks vs p n) =
+one-possible s (add i kind ks vs p n) =
     let b = s .tables i .buffer in let g = s .tables i .groups in let w : List ℕ = replicate {A = ℕ} n 0 in
-    subst (λ (m : ℕ). (x : Answer) × (s′ : State) × Called s (add i Double ks vs p m) x s′) (length-replicate n 0) (
+    let told = width kind in
+    subst (λ (m : ℕ). (x : Answer) × (s′ : State) × Called s (add i kind ks vs p m) x s′) (length-replicate n 0) (
       _,
       _,
-      by-girth-add i ([], ([], ([], ([], tt)))) (ref b, (g, (ref ks, (ref vs, (ref w, tt))))) (returnsCount (addOutcome Double b g ks vs (length w)))
-          (ref (addLeaves Double b g ks vs (length w)), (g, (ref ks, (ref vs, (ref (cleared w), tt))))) p (refl, refl) (refl, (refl, refl)),
+      by-girth-add i kind ([], ([], ([], ([], tt)))) (ref b, (g, (ref ks, (ref vs, (told, (ref w, tt)))))) (returnsCount (addOfWidth (kindOfWidth told) b g ks vs (length w)))
+          (ref (addOfWidthLeaves (kindOfWidth told) b g ks vs (length w)), (g, (ref ks, (ref vs, (told, (ref (cleared w), tt)))))) p (width-back kind) (refl, refl) (refl, (refl, refl)),
     )
 one-possible s (save i n) =
     let b = s .tables i .buffer in let g = s .tables i .groups in let out : List ℕ = replicate {A = ℕ} n 0 in

@@ -2,6 +2,7 @@
 use Prim.Native.Nat.{ℕ}
 use mathlib.Core.Path.{_≡_, refl, sym, ap, ap₂, _∙_}
 use mathlib.Core.List.{List, [], _∷_, _++_, append-nil}
+use native.Mathlib.Nat.{mul-zero}
 use lib.IntN.{ℤ}
 use lib.ListN.{length, take}
 use denote.Ref.{now}
@@ -11,10 +12,10 @@ use Rattle.refusal.specs.Outcome.{Outcome, accepted}
 use Rattle.refusal.proofs.Outcomes.{not-given, accepted-value}
 use Rattle.output.specs.Output.{outputGround}
 use Rattle.output.proofs.Outputs.{left-front}
-use Rattle.columns.specs.declared.Kind.the-variants.{Double}
-use Rattle.columns.specs.Columns.{rowsFrom, columnsFit, rowsOf}
-use Rattle.patch.specs.File.{readOutcome, keyColumn, valueColumn}
-use Rattle.patch.proofs.File.{accepted-only, no-rows-columns}
+use Rattle.columns.specs.declared.Kind.{Kind}
+use Rattle.columns.specs.Columns.{width, rowsFrom, columnsFit, rowsOf}
+use Rattle.patch.specs.File.{kindOf, readOutcome, FileRows, fileOutcome, keyColumn, valueColumn}
+use Rattle.patch.proofs.File.{accepted-only, with-accepted, said-kind, no-rows-columns}
 use Rattle.patch.proofs.Columns.{accepted-rows}
 use Rattle.record.specs.Keys.{rising}
 use Rattle.record.specs.Sound.{soundRecords, sound}
@@ -44,27 +45,36 @@ print-said : (out w : List ℕ) {z : ℤ} → z ≡ returnsCount (printOutcome o
 print-said out w q = count-back (printOutcome out w) (not-given 0 (outputGround (length out) (length w) ∷ []) (length w) refl) q
 
 -- ---- the sections of an add to the report's empty table
-sections-added : (ks vs : List ℕ) → addSections Double emptyTable 0 ks vs ≡ canonical (rowsOf Double ks vs)
+sections-added : (kind : Kind) (ks vs : List ℕ) → addSections kind emptyTable 0 ks vs ≡ canonical (rowsOf kind ks vs)
 unfolding cells canonical sectionNumbers
-sections-added ks vs = added-canonical [] (rowsOf Double ks vs)
+sections-added kind ks vs = added-canonical [] (rowsOf kind ks vs)
 
-table-printed : (f : List ℕ) (n g : ℕ) → readOutcome Double f ≡ accepted n → addOf f ≡ accepted g → reportText f ≡ tableText (canonical (rowsIn f))
+-- the report of an accepted file, by the kind that its mark says
+file-printed : (f : List ℕ) {r : FileRows} → fileOutcome f ≡ accepted r → reportText f ≡ columnsText (kindOf f) (keyColumn (kindOf f) f) (valueColumn (kindOf f) f)
+file-printed f {r} e = file-accepted f r e ∙ ap (λ (kind : Kind). columnsText kind (keyColumn (kindOf f) f) (valueColumn (kindOf f) f)) (sym (said-kind f e))
+
+-- and its outcome
+file-read : (f : List ℕ) {r : FileRows} → fileOutcome f ≡ accepted r → readOutcome (kindOf f) f ≡ accepted (r .count)
+file-read f e = with-accepted (kindOf f) (readOutcome (kindOf f) f) e .0
+
+table-printed : (f : List ℕ) {r : FileRows} (g : ℕ) → fileOutcome f ≡ accepted r → addOf f ≡ accepted g → reportText f ≡ tableText (canonical (rowsIn f))
 unfolding columnsText addText
-table-printed f n g e a =
-    file-accepted f n e
-    ∙ ap (λ (o : Outcome ℕ). addText o (addSections Double emptyTable 0 (keyColumn Double f) (valueColumn Double f))) a
-    ∙ ap tableText (sections-added (keyColumn Double f) (valueColumn Double f))
+table-printed f g e a =
+    let k = kindOf f in
+    file-printed f e
+    ∙ ap (λ (o : Outcome ℕ). addText o (addSections k emptyTable 0 (keyColumn k f) (valueColumn k f))) a
+    ∙ ap tableText (sections-added k (keyColumn k f) (valueColumn k f))
 
 -- ---- no rows
-none-added : addOutcome Double emptyTable 0 [] [] tableBytes ≡ accepted 0
+none-added : (kind : Kind) → addOutcome kind emptyTable 0 [] [] tableBytes ≡ accepted 0
 unfolding addGrounds columnGrounds sound soundRecords rising cells columnsFit rowsOf rowsFrom anyOf added
-none-added = refl
+none-added kind = rw (mul-zero (width kind)) refl
 
-no-rows-text : (ks vs : List ℕ) → ks ≡ [] → vs ≡ [] → columnsText Double ks vs ≡ headLine ++ totalLine (record { groups = 0; count = 0 })
+no-rows-text : (kind : Kind) (ks vs : List ℕ) → ks ≡ [] → vs ≡ [] → columnsText kind ks vs ≡ headLine ++ totalLine (record { groups = 0; count = 0 })
 unfolding columnsText addText tableText image rowTotal cells rowsOf rowsFrom added
-no-rows-text ks vs k v =
-    ap₂ (columnsText Double) k v
-    ∙ ap (λ (o : Outcome ℕ). addText o (addSections Double emptyTable 0 [] [])) none-added
+no-rows-text kind ks vs k v =
+    ap₂ (columnsText kind) k v
+    ∙ ap (λ (o : Outcome ℕ). addText o (addSections kind emptyTable 0 [] [])) (none-added kind)
     ∙ ap (λ (l : List ℕ). l ++ totalLine (record { groups = 0; count = 0 })) (append-nil headLine)
 
 pub reported : Reported
@@ -75,13 +85,14 @@ reported = record {
       let w = reportText (now (a .0)) in
       let p = printed out w (sym (print-said out w (l .0)) ∙ q) in
       (p .0, ap (take n) (l .1) ∙ p .1);
-  of-rows = λ f n g e a. (
-    table-printed f n g e a ∙ ap (λ (t : TableTotals). headLine ++ image lineText (canonical (rowsIn f)) ++ totalLine t) (totals-canonical (rowsIn f)),
-    accepted-rows Double f e,
+  of-rows = λ f r g e a. (
+    table-printed f g e a ∙ ap (λ (t : TableTotals). headLine ++ image lineText (canonical (rowsIn f)) ++ totalLine t) (totals-canonical (rowsIn f)),
+    accepted-rows (kindOf f) f (file-read f e),
   );
-  of-no-rows = λ f e.
-      let p = no-rows-columns Double f (accepted-only Double f e .row-count-is) in
-      file-accepted f 0 e ∙ no-rows-text (keyColumn Double f) (valueColumn Double f) (p .0) (p .1);
-  of-refused-file = λ f r e. file-refused f r e;
-  of-refused-add = λ f n r e a. file-accepted f n e ∙ columns-refused (keyColumn Double f) (valueColumn Double f) r a;
+  of-no-rows = λ f r e z.
+      let k = kindOf f in
+      let p = no-rows-columns k f (accepted-only k f (file-read f e) .row-count-is ∙ z) in
+      file-printed f e ∙ no-rows-text k (keyColumn k f) (valueColumn k f) (p .0) (p .1);
+  of-refused-file = λ f n e. file-refused f n e;
+  of-refused-add = λ f r n e a. file-printed f e ∙ columns-refused (kindOf f) (keyColumn (kindOf f) f) (valueColumn (kindOf f) f) n a;
 }

@@ -4,6 +4,7 @@ use Prim.Native.Nat.{ℕ, zero, suc}
 use mathlib.Core.Path.{_≡_, refl, sym, ap, ap₂, subst, _∙_}
 use mathlib.Core.Bool.{Bool, true, false, cond}
 use mathlib.Core.List.{List, []}
+use mathlib.Core.Option.{Option}
 use lib.IntN.{ℤ, pos}
 use lib.Ieee.{Float, binary64, ofBits}
 use lib.ListN.{length}
@@ -11,6 +12,7 @@ use denote.Ref.{now}
 use Rattle.lists.proofs.Booleans.{never}
 use Rattle.refusal.specs.Outcome.{Outcome, accepted, refused, Ground, isRefusal, isGround}
 use Rattle.refusal.proofs.Outcomes.{not-given}
+use Rattle.columns.specs.declared.Kind.{Kind}
 use Rattle.columns.specs.declared.Kind.the-variants.{Double}
 use Rattle.patch.specs.File.{rowCount, readGrounds, readOutcome}
 use Rattle.table.specs.Calls.{columnGrounds, addGrounds, addSections, addOutcome, mergeGrounds, mergeSections, mergeOutcome}
@@ -28,10 +30,12 @@ use Rattle.totals.specs.Totals.{tableTotals, totalsGrounds, totalsOutcome}
 use Rattle.checkpoint.specs.Saved.{savedLength, savedTable, groupCount}
 use Rattle.checkpoint.specs.Calls.{saveGrounds, saveOutcome, saveLeaves, loadGrounds, loadOutcome, loadLeaves}
 use Rattle.checkpoint.proofs.Saving.{file-saved}
+use Rattle.exports.specs.Width.{addOfWidth, addOfWidthLeaves}
+use Rattle.exports.proofs.Widths.{oneByte, unknown-outcome, unknown-leaves}
 use Rattle.exports.specs.Calls.{returnsCount, returnsZero, returnsFlag, writes, doubleBits}
 use Rattle.history.specs.Calls.{Call, shelved}
 use Rattle.history.specs.Run.{State, Answer, setTable, after, afterLoad, fileOn, step, groupsAre, sumIs, figureIs, lineIs, exactnessIs, totalsAre, lengthIs, askTable, answer}
-use Rattle.conformance.specs.Called.{stateLeft, fileLeft, countSaid, valuesSaid, flagSaid, Called, by-add, by-girth-add, by-merge, by-girth-merge, by-sum, by-figure, by-line, by-exactness, by-girth-sum, by-girth-figure, by-girth-line, by-girth-exact, by-totals, by-girth-totals, by-save, by-girth-save, by-load, by-girth-load}
+use Rattle.conformance.specs.Called.{stateLeft, fileLeft, countSaid, valuesSaid, flagSaid, Called, by-add, by-girth-add, by-girth-add-of-no-kind, by-merge, by-girth-merge, by-sum, by-figure, by-line, by-exactness, by-girth-sum, by-girth-figure, by-girth-line, by-girth-exact, by-totals, by-girth-totals, by-save, by-girth-save, by-load, by-girth-load}
 
 -- ---- outcomes read back
 
@@ -67,13 +71,13 @@ given-out {A} o y n f q = ap (valuesSaid y) q ∙ by o n f
     by (refused (suc m)) n f = refl
 
 -- no call is refused with 0
-add-not-0 : (s : List ℕ) (g : ℕ) (ks vs : List ℕ) (workLen : ℕ) → isRefusal 0 (addOutcome Double s g ks vs workLen) ≡ false
+add-not-0 : (kind : Kind) (s : List ℕ) (g : ℕ) (ks vs : List ℕ) (workLen : ℕ) → isRefusal 0 (addOutcome kind s g ks vs workLen) ≡ false
 unfolding addGrounds columnGrounds
-add-not-0 s g ks vs workLen = not-given 0 (addGrounds Double s g ks vs workLen) (length (addSections Double s g ks vs)) refl
+add-not-0 kind s g ks vs workLen = not-given 0 (addGrounds kind s g ks vs workLen) (length (addSections kind s g ks vs)) refl
 
-pub read-not-0 : (f : List ℕ) → isRefusal 0 (readOutcome Double f) ≡ false
+pub read-not-0 : (kind : Kind) (f : List ℕ) → isRefusal 0 (readOutcome kind f) ≡ false
 unfolding readOutcome readGrounds
-read-not-0 f = not-given 0 (readGrounds Double f) (rowCount f) refl
+read-not-0 kind f = not-given 0 (readGrounds kind f) (rowCount f) refl
 
 merge-not-0 : (s : List ℕ) (g : ℕ) (s′ : List ℕ) (g′ : ℕ) → isRefusal 0 (mergeOutcome s g s′ g′) ≡ false
 unfolding mergeGrounds
@@ -181,10 +185,20 @@ steps s c x s′ (by-add i κs a z e b p l) = (
   rw (p .0, p .1) (ap groupsAre (sym (l .0))),
   rw (p .0, p .1) (ap₂ (λ (o : Outcome ℕ) (b : List ℕ). setTable i (after o b (a .1 .0)) s) (sym (l .0)) (sym (l .1 .0))),
 )
-steps s c x s′ (by-girth-add i κs a z e b p l) =
-    let q = count-back (addOutcome Double (now (a .0)) (a .1 .0) (now (a .1 .1 .0)) (now (a .1 .1 .1 .0)) (length (now (a .1 .1 .1 .1 .0)))) (add-not-0 _ _ _ _ _) (l .0) in (
+steps s c x s′ (by-girth-add i kind κs a z e b k p l) =
+    let t = now (a .0) in let g = a .1 .0 in let ks = now (a .1 .1 .0) in let vs = now (a .1 .1 .1 .0) in let len = length (now (a .1 .1 .1 .1 .1 .0)) in
+    let q = count-back (addOutcome kind t g ks vs len) (add-not-0 kind t g ks vs len) (l .0 ∙ ap (λ (w : Option Kind). returnsCount (addOfWidth w t g ks vs len)) k) in
+    let m = l .1 .0 ∙ ap (λ (w : Option Kind). addOfWidthLeaves w t g ks vs len) k in (
       rw (p .0, p .1) (ap groupsAre (sym q)),
-      rw (p .0, p .1) (ap₂ (λ (o : Outcome ℕ) (b : List ℕ). setTable i (after o b (a .1 .0)) s) (sym q) (sym (l .1 .0))),
+      rw (p .0, p .1) (ap₂ (λ (o : Outcome ℕ) (b : List ℕ). setTable i (after o b (a .1 .0)) s) (sym q) (sym m)),
+    )
+steps s c x s′ (by-girth-add-of-no-kind i κs a z e k p l) =
+    let t = now (a .0) in let g = a .1 .0 in let ks = now (a .1 .1 .0) in let vs = now (a .1 .1 .1 .0) in let len = length (now (a .1 .1 .1 .1 .1 .0)) in
+    let r = l .0 ∙ ap (λ (w : Option Kind). returnsCount (addOfWidth w t g ks vs len)) k ∙ ap returnsCount (sym (unknown-outcome t g ks vs len)) in
+    let q = count-back (addOutcome Double t g oneByte oneByte len) (add-not-0 Double t g oneByte oneByte len) r in
+    let m = l .1 .0 ∙ ap (λ (w : Option Kind). addOfWidthLeaves w t g ks vs len) k ∙ sym (unknown-leaves t g ks vs len) in (
+      rw (p .0, p .1) (ap groupsAre (sym q)),
+      rw (p .0, p .1) (ap₂ (λ (o : Outcome ℕ) (b : List ℕ). setTable i (after o b (a .1 .0)) s) (sym q) (sym m)),
     )
 steps s c x s′ (by-merge i j apart κs a z e p q l) = (
   rw (p .0, p .1, q .0, q .1) (ap groupsAre (sym (l .0))),

@@ -76,7 +76,7 @@ pub record AsksNothing : Type 1 where
   pub of-save : (κs : Lfts 2) (a : Dens κs saveKinds.ps) → saveReads.Asked κs a
   pub of-load : (κs : Lfts 2) (a : Dens κs loadKinds.ps) → loadReads.Asked κs a
   pub of-report : (κs : Lfts 2) (a : Dens κs reportKinds.ps) → reportReads.Asked κs a
-  pub of-girth-read : (κs : Lfts 3) (a : Dens κs girthReadKinds.ps) → girthReadReads.Asked κs a
+  pub of-girth-read : (κs : Lfts 4) (a : Dens κs girthReadKinds.ps) → girthReadReads.Asked κs a
   pub of-girth-add : (κs : Lfts 4) (a : Dens κs girthAddKinds.ps) → girthAddReads.Asked κs a
   pub of-girth-merge : (κs : Lfts 2) (a : Dens κs girthMergeKinds.ps) → girthMergeReads.Asked κs a
   pub of-girth-sum : (κs : Lfts 3) (a : Dens κs girthSumKinds.ps) → girthSumReads.Asked κs a

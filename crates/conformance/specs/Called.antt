@@ -3,7 +3,8 @@
 use Prim.Native.Nat.{ℕ, zero, suc}
 use mathlib.Core.Path.{_≡_}
 use mathlib.Core.Bool.{Bool, true, false, not}
-use mathlib.Core.List.{List, []}
+use mathlib.Core.List.{List, [], _∷_}
+use mathlib.Core.Option.{some, none}
 use lib.Dec.{T, eqb}
 use lib.IntN.{ℤ, pos, negsuc}
 use lib.Ieee.{binary64, ofBits}
@@ -16,6 +17,7 @@ use denote.Ref.{now}
 use Rattle.refusal.specs.Outcome.{Outcome, accepted, refused}
 use Rattle.limbs.specs.Side.{sideSaid}
 use Rattle.output.specs.Output.{outputAnswer}
+use Rattle.columns.specs.declared.Kind.{Kind}
 use Rattle.columns.specs.declared.Kind.the-variants.{Double}
 use Rattle.table.specs.Answer.{tableAnswer}
 use Rattle.finish.specs.Answer.{sumAnswer, figureAnswer, lineAnswer}
@@ -23,6 +25,7 @@ use Rattle.finish.specs.Exact.{exactnessAnswer}
 use Rattle.totals.specs.Answer.{totalsAnswer}
 use Rattle.history.specs.Calls.{sum, figure, line, exactness, totals, Call, add, merge, ask, save, load, shelved}
 use Rattle.history.specs.Run.{Store, State, setTable, after, fileOn, Answer, groupsAre, sumIs, figureIs, lineIs, exactnessIs, totalsAre, lengthIs}
+use Rattle.exports.specs.Width.{kindOfWidth}
 use Rattle.add.proofs.add.Reads as addReads
 use Rattle.add.proofs.add.Kinds as addKinds
 use Rattle.merge.proofs.merge.Reads as mergeReads
@@ -95,13 +98,18 @@ flagSaid (negsuc n) = refused (suc n)
 
 -- in the state s the call answers x and leaves the state s′; a and e have what is lent and given in the order of the parameters, a at first and e at the end
 pub data Called (s : State) : Call → Answer → State → Type 1 where
-  -- table, group count, keys, values and work buffer; that the keys hold bytes is not said of a call's arguments
+  -- table, group count, keys, values, their kind and work buffer; that the keys hold bytes is not said of a call's arguments
   by-add : (i : ℕ) (κs : Lfts 4) (a : Dens κs addKinds.ps) (z : resT addKinds.r κs .Denot) (e : AtExit (endedOf 4 addKinds.ps addKinds.r) κs) (b : T (areBytes (now (a .1 .1 .0))))
       → Lent (s .tables i) (now (a .0)) (a .1 .0) → addReads.Learnt κs a z e
-      → Called s (add i Double (now (a .1 .1 .0)) (now (a .1 .1 .1 .0)) b (length (now (a .1 .1 .1 .1 .0)))) (groupsAre (tableAnswer z)) (stateLeft s i (tableAnswer z) (now (e .0)))
-  by-girth-add : (i : ℕ) (κs : Lfts 4) (a : Dens κs girthAddKinds.ps) (z : resT girthAddKinds.r κs .Denot) (e : AtExit (endedOf 4 girthAddKinds.ps girthAddKinds.r) κs) (b : T (areBytes (now (a .1 .1 .0))))
-      → Lent (s .tables i) (now (a .0)) (a .1 .0) → girthAddReads.Learnt κs a z e
-      → Called s (add i Double (now (a .1 .1 .0)) (now (a .1 .1 .1 .0)) b (length (now (a .1 .1 .1 .1 .0)))) (groupsAre (countSaid z)) (stateLeft s i (countSaid z) (now (e .0)))
+      → Called s (add i (a .1 .1 .1 .1 .0) (now (a .1 .1 .0)) (now (a .1 .1 .1 .0)) b (length (now (a .1 .1 .1 .1 .1 .0)))) (groupsAre (tableAnswer z)) (stateLeft s i (tableAnswer z) (now (e .0)))
+  -- the exported call is told the width of its values, which is that of a kind
+  by-girth-add : (i : ℕ) (kind : Kind) (κs : Lfts 4) (a : Dens κs girthAddKinds.ps) (z : resT girthAddKinds.r κs .Denot) (e : AtExit (endedOf 4 girthAddKinds.ps girthAddKinds.r) κs) (b : T (areBytes (now (a .1 .1 .0))))
+      → kindOfWidth (a .1 .1 .1 .1 .0) ≡ some kind → Lent (s .tables i) (now (a .0)) (a .1 .0) → girthAddReads.Learnt κs a z e
+      → Called s (add i kind (now (a .1 .1 .0)) (now (a .1 .1 .1 .0)) b (length (now (a .1 .1 .1 .1 .1 .0)))) (groupsAre (countSaid z)) (stateLeft s i (countSaid z) (now (e .0)))
+  -- or of none: such a call does what the add of columns does that no row count fits
+  by-girth-add-of-no-kind : (i : ℕ) (κs : Lfts 4) (a : Dens κs girthAddKinds.ps) (z : resT girthAddKinds.r κs .Denot) (e : AtExit (endedOf 4 girthAddKinds.ps girthAddKinds.r) κs)
+      → kindOfWidth (a .1 .1 .1 .1 .0) ≡ none → Lent (s .tables i) (now (a .0)) (a .1 .0) → girthAddReads.Learnt κs a z e
+      → Called s (add i Double (0 ∷ []) (0 ∷ []) tt (length (now (a .1 .1 .1 .1 .1 .0)))) (groupsAre (countSaid z)) (stateLeft s i (countSaid z) (now (e .0)))
   -- the first table and its group count, another one and its group count
   by-merge : (i j : ℕ) (apart : T (not (eqb i j))) (κs : Lfts 2) (a : Dens κs mergeKinds.ps) (z : resT mergeKinds.r κs .Denot) (e : AtExit (endedOf 2 mergeKinds.ps mergeKinds.r) κs)
       → Lent (s .tables i) (now (a .0)) (a .1 .0) → Lent (s .tables j) (now (a .1 .1 .0)) (a .1 .1 .1 .0) → mergeReads.Learnt κs a z e

@@ -15,6 +15,7 @@ use Rattle.table.specs.Calls.{cleared}
 use Rattle.history.specs.Rows.{SameRows, sectionBits, rowsTotals}
 use Rattle.history.specs.Calls.{Question, exactness, totals, Call, ask, noRows}
 use Rattle.history.specs.Run.{State, Answer, exactnessIs, totalsAre, step, stateAfter, answer, answers, answersRows, askTable}
+use Rattle.history.specs.AsDoubles.{callsAsDoubles}
 use Rattle.history.specs.Demand3.{History, empty, lengths, rows, table, used, sectionsIn}
 use Rattle.add.proofs.add.Reads as addReads
 use Rattle.add.proofs.add.Kinds as addKinds
@@ -52,10 +53,12 @@ pub record WorkedIs : Type 1 where
   -- a section of which a call tells that its kept value is known to be exact has a kept value equal to the exact sum of its rows
   pub exact-told : (h : History) (xs : List Answer) (s : State) → CarriedOut h xs s → (i k : ℕ) (t : State) → Called s (ask i (exactness k)) (exactnessIs (accepted true)) t
       → (r : Section) × (find k (sectionsIn (s .tables i)) ≡ some r) × (kept r ≡ exactSum (sectionBits k (rows h i)))
+  -- with all values in doubles a list of calls answers the same and leaves the same, from every state
+  pub same-in-doubles : (s : State) (cs : List Call) (xs xs′ : List Answer) (s′ s″ : State) → Worked s cs xs s′ → Worked s (callsAsDoubles cs) xs′ s″ → (xs ≡ xs′) × (s′ ≡ s″)
   -- every list of calls can be carried out
   pub possible : (s : State) (cs : List Call) → (xs : List Answer) × (s′ : State) × Worked s cs xs s′
   -- an add leaves only zeros in its work buffer
   pub buffer-cleared : (κs : Lfts 4) (a : Dens κs addKinds.ps) (z : resT addKinds.r κs .Denot) (e : AtExit (endedOf 4 addKinds.ps addKinds.r) κs) → addReads.Learnt κs a z e
-      → now (e .1 .1 .1 .1 .0) ≡ cleared (now (a .1 .1 .1 .1 .0))
+      → now (e .1 .1 .1 .1 .1 .0) ≡ cleared (now (a .1 .1 .1 .1 .1 .0))
   pub girth-buffer-cleared : (κs : Lfts 4) (a : Dens κs girthAddKinds.ps) (z : resT girthAddKinds.r κs .Denot) (e : AtExit (endedOf 4 girthAddKinds.ps girthAddKinds.r) κs)
-      → girthAddReads.Learnt κs a z e → now (e .1 .1 .1 .1 .0) ≡ cleared (now (a .1 .1 .1 .1 .0))
+      → girthAddReads.Learnt κs a z e → now (e .1 .1 .1 .1 .1 .0) ≡ cleared (now (a .1 .1 .1 .1 .1 .0))

@@ -13,7 +13,7 @@ use mir.Facts.{sfits-widen}
 use mir.ValLaws.{toZ-ofZ}
 use Rattle.refusal.specs.Outcome.{Outcome, accepted, refused, Ground, outcome, condition}
 use Rattle.refusal.proofs.Outcomes.{accepted-within}
-use Rattle.columns.specs.declared.Kind.the-variants.{Double}
+use Rattle.columns.specs.declared.Kind.{Kind}
 use Rattle.record.specs.Layout.{mostGroups, capacity}
 use Rattle.table.specs.Calls.{addSections, columnGrounds, addGrounds, addOutcome, mergeSections, mergeGrounds, mergeOutcome}
 use Rattle.exports.specs.Calls.{returned}
@@ -34,9 +34,9 @@ module _ (gs : List Ground) (len m : ℕ) (room : condition 12 gs ≡ ltb (capac
   groups-le : {n : ℕ} → outcome gs m ≡ accepted n → n ≤ mostGroups
   groups-le e = omega (arith, accepted-within 12 gs (capacity len) m room e, min-le-right (len / 64) mostGroups)
 
-pub add-groups : (s : List ℕ) (g : ℕ) (ks vs : List ℕ) (workLen : ℕ) {n : ℕ} → addOutcome Double s g ks vs workLen ≡ accepted n → n ≤ mostGroups
+pub add-groups : (kind : Kind) (s : List ℕ) (g : ℕ) (ks vs : List ℕ) (workLen : ℕ) {n : ℕ} → addOutcome kind s g ks vs workLen ≡ accepted n → n ≤ mostGroups
 unfolding addGrounds columnGrounds
-add-groups s g ks vs workLen = groups-le (addGrounds Double s g ks vs workLen) (length s) (length (addSections Double s g ks vs)) refl
+add-groups kind s g ks vs workLen = groups-le (addGrounds kind s g ks vs workLen) (length s) (length (addSections kind s g ks vs)) refl
 
 pub merge-groups : (s : List ℕ) (g : ℕ) (s′ : List ℕ) (g′ : ℕ) {n : ℕ} → mergeOutcome s g s′ g′ ≡ accepted n → n ≤ mostGroups
 unfolding mergeGrounds

@@ -1,17 +1,19 @@
 // The public calls for other languages. A call returns a number of at least 0, or minus the refusal's number; further numbers go
 // out through references, and are 0 when the call is refused.
 ghost use mathlib.Core.Path.{_≡_};
+ghost use mathlib.Core.List.{[]};
+ghost use mathlib.Core.Option.{none};
 ghost use Prim.Native.Nat.{ℕ, _≤_, _<_, _^_};
 ghost use lib.IntN.{pos, negℤ};
 ghost use lib.ListN.{length};
 ghost use Rattle.refusal.specs.Number.{numberOf};
 ghost use Rattle.refusal.specs.Outcome.{accepted};
 ghost use Rattle.output.specs.Output.{outputAnswer};
-ghost use Rattle.columns.specs.declared.Kind.the-variants.{Double};
-ghost use Rattle.patch.specs.File.{readOutcome, keyStart, valueStart};
+ghost use Rattle.columns.specs.Columns.{width};
+ghost use Rattle.patch.specs.File.{kindOf, fileOutcome, keyStart, valueStart};
 ghost use Rattle.patch.specs.Serializer.{writeOutcome, writeLeaves};
 ghost use Rattle.record.specs.Layout.{mostGroups};
-ghost use Rattle.table.specs.Calls.{addOutcome, addLeaves, cleared, mergeOutcome, mergeLeaves};
+ghost use Rattle.table.specs.Calls.{cleared, mergeOutcome, mergeLeaves};
 ghost use Rattle.table.specs.Answer.{tableAnswer};
 ghost use Rattle.limbs.specs.Side.{sideNumber};
 ghost use Rattle.finish.specs.Finish.{sumOutcome, figureOutcome, lineOutcome};
@@ -20,7 +22,9 @@ ghost use Rattle.totals.specs.Totals.{totalsOutcome};
 ghost use Rattle.checkpoint.specs.Calls.{saveOutcome, saveLeaves, loadOutcome, loadLeaves};
 ghost use Rattle.report.specs.Text.{reportText};
 ghost use Rattle.report.specs.Answer.{printOutcome, printLeaves};
-ghost use Rattle.exports.specs.Calls.{returnsCount, returnsZero, returnsFlag, writes, doubleBits};
+ghost use Rattle.exports.specs.Width.{kindOfWidth, widthKind, addOfWidth, addOfWidthLeaves};
+ghost use Rattle.exports.specs.Calls.{returned, returnsCount, returnsZero, returnsFlag, writes, doubleBits};
+use columns::Kind;
 use finish::ExactnessAnswer;
 use finish::FigureAnswer;
 use finish::LineAnswer;
@@ -39,19 +43,29 @@ fn minus(r: Refusal) -> i64
     level::with_sign(true, refusal::number_of(r) as u64)
 }
 
-// The row count of a patch file, and where its columns start.
+// The row count of a patch file, where its columns start, and how many bytes each of its values has.
 #[no_mangle]
-pub extern "C" fn girth_read(file: &[u8], keys_at: &mut u64, values_at: &mut u64) -> i64
-    ensures answer { λ r. ⌜ r ≡ returnsCount (readOutcome Double (now (file .entry))) ⌝ }
-    ensures key_start { λ _. ⌜ now («keys_at» .exit) ≡ keyStart Double (now (file .entry)) ⌝ }
-    ensures value_start { λ _. ⌜ now («values_at» .exit) ≡ valueStart Double (now (file .entry)) ⌝ }
+pub extern "C" fn girth_read(
+    file: &[u8],
+    keys_at: &mut u64,
+    values_at: &mut u64,
+    value_width: &mut u64,
+) -> i64
+    ensures answer { λ r. ⌜ r ≡ returned (λ x. x .count) (fileOutcome (now (file .entry))) ⌝ }
+    ensures key_start { λ _. ⌜ now («keys_at» .exit) ≡ keyStart (kindOf (now (file .entry))) (now (file .entry)) ⌝ }
+    ensures value_start { λ _. ⌜ now («values_at» .exit) ≡ valueStart (kindOf (now (file .entry))) (now (file .entry)) ⌝ }
+    ensures width { λ _. ⌜ now («value_width» .exit) ≡ writes 0 (λ x. width (x .kind)) (fileOutcome (now (file .entry))) ⌝ }
 {
     let key_start = patch::key_start(file) as u64;
     let value_start = patch::value_start(file) as u64;
     *keys_at = key_start;
     *values_at = value_start;
+    *value_width = 0;
     match patch::read(file) {
-        Reading::RowCount(n) => n as i64,
+        Reading::Rows { count, kind } => {
+            *value_width = columns::value_width(kind) as u64;
+            count as i64
+        }
         Reading::Refused(r) => minus(r),
     }
 }
@@ -67,20 +81,53 @@ fn groups_or_minus(a: TableAnswer) -> i64
     }
 }
 
-// Adds the rows of two columns to a table of g records. The work buffer holds only zeros afterwards.
+// The kind of value that has some width, if there is one.
+enum WidthKind {
+    Of(Kind),
+    Unknown,
+}
+
+// The kind of value that has so many bytes.
+fn kind_of_width(value_width: u64) -> WidthKind
+    ensures { λ r. ⌜ widthKind r ≡ kindOfWidth «value_width» ⌝ }
+{
+    match value_width {
+        8 => WidthKind::Of(Kind::Double),
+        4 => WidthKind::Of(Kind::Single),
+        _ => WidthKind::Unknown,
+    }
+}
+
+// An add whose values have a width of no kind: as with any other columns that no row count fits, 7 and 8 go before 9.
+fn add_of_unknown_width(table: &mut [u8], g: u64, work: &mut [u8]) -> i64
+    ensures answer { λ r. ⌜ r ≡ returnsCount (addOfWidth none (now (table .entry)) g [] [] (length (now (work .entry)))) ⌝ }
+    ensures content { λ _. ⌜ now (table .exit) ≡ now (table .entry) ⌝ }
+    ensures work { λ _. ⌜ now (work .exit) ≡ cleared (now (work .entry)) ⌝ }
+{
+    let unfit = [0u8; 1];
+    groups_or_minus(add::add(table, g as usize, &unfit, &unfit, Kind::Double, work))
+}
+
+// Adds the rows of two columns to a table of g records, each value having so many bytes. The work buffer holds only zeros afterwards.
 #[no_mangle]
 pub extern "C" fn girth_add(
     table: &mut [u8],
     g: u64,
     keys: &[u8],
     values: &[u8],
+    value_width: u64,
     work: &mut [u8],
 ) -> i64
-    ensures answer { λ r. ⌜ r ≡ returnsCount (addOutcome Double (now (table .entry)) g (now (keys .entry)) (now (values .entry)) (length (now (work .entry)))) ⌝ }
-    ensures content { λ _. ⌜ now (table .exit) ≡ addLeaves Double (now (table .entry)) g (now (keys .entry)) (now (values .entry)) (length (now (work .entry))) ⌝ }
+    ensures answer { λ r. ⌜ r ≡ returnsCount (addOfWidth (kindOfWidth «value_width») (now (table .entry)) g (now (keys .entry)) (now (values .entry)) (length (now (work .entry)))) ⌝ }
+    ensures content { λ _. ⌜ now (table .exit) ≡ addOfWidthLeaves (kindOfWidth «value_width») (now (table .entry)) g (now (keys .entry)) (now (values .entry)) (length (now (work .entry))) ⌝ }
     ensures work { λ _. ⌜ now (work .exit) ≡ cleared (now (work .entry)) ⌝ }
 {
-    groups_or_minus(add::add(table, g as usize, keys, values, work))
+    match kind_of_width(value_width) {
+        WidthKind::Of(kind) => {
+            groups_or_minus(add::add(table, g as usize, keys, values, kind, work))
+        }
+        WidthKind::Unknown => add_of_unknown_width(table, g, work),
+    }
 }
 
 // Merges a table of g2 records into one of g1.

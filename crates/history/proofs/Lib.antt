@@ -16,4 +16,5 @@ pub mod Faded
 pub mod Fades
 pub mod FadedFiles
 pub mod Older
+pub mod AsDoubles
 pub mod Terms

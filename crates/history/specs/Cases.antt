@@ -11,7 +11,8 @@ use Rattle.codec.specs.Cells.{cells, image}
 use Rattle.refusal.specs.Outcome.{accepted, refused, isRefusal}
 use Rattle.level.specs.Level.{topFrom, top, given, contribution, topOf, total}
 use Rattle.level.specs.Finest.{finestOf}
-use Rattle.columns.specs.declared.Kind.the-variants.{Double}
+use Rattle.single.specs.Single.{widened}
+use Rattle.columns.specs.declared.Kind.the-variants.{Double, Single}
 use Rattle.columns.specs.Columns.{width, Row, rowsFrom, columnsFit, rowsOf}
 use Rattle.record.specs.Section.{Section, sections, sectionBytes, written, find, kept, sectionAtTop}
 use Rattle.limbs.specs.declared.Side.the-variants.{Equal}
@@ -50,6 +51,10 @@ emptyTables = noGroups (λ i. lentBuffer)
 abbrev addTo : (i : ℕ) (ks vs : List ℕ) → T (areBytes (image (bytes 4) ks)) → Call
 addTo i ks vs b = add i Double (image (bytes 4) ks) (image (bytes (width Double)) vs) b 128
 
+-- an add to table i of rows given by their keys and the bits of short floats
+abbrev addShortTo : (i : ℕ) (ks vs : List ℕ) → T (areBytes (image (bytes 4) ks)) → Call
+addShortTo i ks vs b = add i Single (image (bytes 4) ks) (image (bytes (width Single)) vs) b 128
+
 -- an add that is refused, since three key bytes are no column
 abbrev refusedAdd : Call
 refusedAdd = add 0 Double (7 ∷ 0 ∷ 0 ∷ []) [] tt 128
@@ -60,11 +65,12 @@ exampleRows = record { key = 7; bits = 0x3FF0000000000000 } ∷ record { key = 3
 
 -- what a list of calls leaves in table 0
 leftInTable0 : List Call → Store
-unfolding stateAfter step answers answer askTable addGrounds columnGrounds mergeGrounds saveOutcome saveGrounds savedTable trailerOf loadOutcome loadGrounds loadLeaves wrongLayout sound rising cells soundRecords soundRecord soundTotal isZero columnsFit image bytes anyOf rowsOf rowsFrom number numberAt added merged absorb combine levelOf ofRow top topFrom given contribution finestOf encode decode
+unfolding stateAfter step answers answer askTable addGrounds columnGrounds mergeGrounds saveOutcome saveGrounds savedTable trailerOf loadOutcome loadGrounds loadLeaves wrongLayout sound rising cells soundRecords soundRecord soundTotal isZero columnsFit image bytes anyOf rowsOf rowsFrom number numberAt added merged absorb combine levelOf ofRow top topFrom given contribution finestOf encode decode widened ofBits toBits
 leftInTable0 cs = stateAfter emptyTables cs .tables 0
 
 -- the same rows in one add, in another order, in two adds, merged from another table, merged the other way round, with a refused add between, loaded from the
--- file of another table, and with a half-done table saved and, after a row that is lost, loaded again
+-- file of another table, with a half-done table saved and, after a row that is lost, loaded again, with short floats before a double, and merged from a table of
+-- short floats into one of doubles with an infinite one refused
 ways : List (List Call)
 unfolding image bytes
 ways =
@@ -76,14 +82,16 @@ ways =
     ∷ (addTo 0 (7 ∷ []) (0x3FF0000000000000 ∷ []) tt ∷ refusedAdd ∷ addTo 0 (7 ∷ 3 ∷ []) (0x43B0000000000000 ∷ 1 ∷ []) tt ∷ [])
     ∷ (addTo 1 (7 ∷ 3 ∷ 7 ∷ []) (0x3FF0000000000000 ∷ 1 ∷ 0x43B0000000000000 ∷ []) tt ∷ save 1 144 ∷ load 0 0 ∷ [])
     ∷ (addTo 0 (7 ∷ []) (0x3FF0000000000000 ∷ []) tt ∷ save 0 80 ∷ addTo 0 (8 ∷ []) (1 ∷ []) tt ∷ load 0 0 ∷ addTo 0 (7 ∷ 3 ∷ []) (0x43B0000000000000 ∷ 1 ∷ []) tt ∷ [])
+    ∷ (addShortTo 0 (7 ∷ 7 ∷ []) (0x5D800000 ∷ 0x3F800000 ∷ []) tt ∷ addTo 0 (3 ∷ []) (1 ∷ []) tt ∷ [])
+    ∷ (addTo 0 (3 ∷ 7 ∷ []) (1 ∷ 0x43B0000000000000 ∷ []) tt ∷ addShortTo 0 (7 ∷ 3 ∷ []) (0x3F800000 ∷ 0x7F800000 ∷ []) tt ∷ addShortTo 1 (7 ∷ []) (0x3F800000 ∷ []) tt ∷ merge 0 1 tt ∷ [])
     ∷ []
 
-one-table : map leftInTable0 ways ≡ replicate 8 (record { buffer = written (canonical exampleRows) lentBuffer; groups = 2 })
+one-table : map leftInTable0 ways ≡ replicate 10 (record { buffer = written (canonical exampleRows) lentBuffer; groups = 2 })
 unfolding ways leftInTable0 canonical sectionNumbers insertKey sectionBits sectionAtTop topOf total
 one-table = refl
 
 -- two sections and three rows, whichever way
-totals-alike : map (λ (cs : List Call). askTable (leftInTable0 cs) totals) ways ≡ replicate 8 (totalsAre (accepted (rowsTotals exampleRows)))
+totals-alike : map (λ (cs : List Call). askTable (leftInTable0 cs) totals) ways ≡ replicate 10 (totalsAre (accepted (rowsTotals exampleRows)))
 unfolding ways leftInTable0 rowTotal sectionNumbers insertKey
 totals-alike = refl
 

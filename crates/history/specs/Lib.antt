@@ -7,5 +7,6 @@ pub mod Run
 pub mod Demand3
 pub mod Reloaded
 pub mod Older
+pub mod AsDoubles
 pub mod Terms
 pub mod Cases

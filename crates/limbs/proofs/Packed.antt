@@ -3,42 +3,23 @@
 use mathlib.Core.Path.{_≡_, refl, sym, ap, _∙_, subst}
 use mathlib.Core.Logic.{_⊎_, inl, inr, ⊎-elim}
 use Prim.Native.Nat.{ℕ, suc, _+_, _-_, _*_, _/_, _^_, _≤_, _<_, Ordering}
-use native.Mathlib.Nat.{le-trans, le-of-eq, le-refl, le-antisymm, eq-or-lt-of-le, lt-of-lt-of-le, lt-of-le-of-lt, lt-of-not-le, not-le-of-lt, mul-one, mul-assoc, mul-div-cancel, mul-le-mul-right, div-one, zero-add, suc-add, lt-suc-self, le-div-iff-mul-le, mul-pos, mul-le-mul, add-assoc}
+use native.Mathlib.Nat.{le-trans, le-of-eq, le-refl, eq-or-lt-of-le, lt-of-le-of-lt, mul-one, mul-assoc, mul-div-cancel, mul-le-mul-right, div-one, zero-add, suc-add, lt-suc-self, le-div-iff-mul-le, mul-pos, mul-le-mul, add-assoc}
 use native.Mathlib.Omega.{arith}
 use mathlib.Core.Bool.{Bool, true}
 use lib.Dec.{ltb, lit<}
 use lib.Arith.{le→nltb}
 use lib.Pow.{pow-add, pow-pos, pow-mono, pow-lt, shl-lt}
-use lib.Ieee.{Float, nan, inf, fin, binary64, up, down, size, units, round, toBits, ofBits}
-use lib.Ieee.Digits.{size-lt, size-le, size-reaches}
-use lib.Ieee.Fits.{down-pos, round-is, round-fits, kept-lt}
+use lib.Ieee.{Float, inf, binary64, size, units, round, toBits, ofBits}
+use lib.Ieee.Digits.{size-le, size-reaches}
+use lib.Ieee.Fits.{round-is, round-fits, kept-lt}
 use lib.Ieee.Exact.{HasValue, units-val}
 use lib.Ieee.Bits.{ofBits-toBits, cond-no}
 use lib.Ieee.Nearest.{closest, closest-same}
+use Rattle.ieee.proofs.Values.{size-is, value-bits}
 use Rattle.integers.proofs.Naturals.{le-or-lt, pow-sum, order-cases}
 use Rattle.limbs.specs.Nearest.{isOdd, rounded, nearestBy}
 use Rattle.limbs.specs.Packed.{droppedDigits, significandOf, roundedUnits, packed, infinite, signBit}
 use Rattle.limbs.proofs.Nearest.{nearest-floor, nearest-ceiling, nearest-at, nearest-whole, closest-odd}
-
--- ---- how many digits a number has
-
--- between 2^a and 2^(a+1) it has a + 1
-pub size-is : (n a : ℕ) → 2 ^ a ≤ n → n < 2 ^ suc a → size n ≡ suc a
-size-is n a l h = le-antisymm (size-le n (suc a) h) (lt-of-not-le (λ (g : size n ≤ a). not-le-of-lt (lt-of-lt-of-le (size-lt n) (pow-mono g)) l))
-
--- ---- the bits of a finite value of a units of 2^-1074
-
-abbrev bitsOfUnits : Bool → ℕ → ℕ
-bitsOfUnits s a = signBit s + (size a - 53) * 2 ^ 52 + a / 2 ^ (size a - 53)
-
-value-bits : (x : Float) (s : Bool) (a : ℕ) → HasValue x s a (2 ^ 1074) → toBits binary64 x ≡ bitsOfUnits s a
-unfolding toBits
-value-bits nan s a h = absurd h
-value-bits (inf t) s a h = absurd h
-value-bits (fin t m e) s a h =
-    let same : m * up e * 2 ^ 1074 / down e ≡ a = ap (λ (x : ℕ). x / down e) (h .1) ∙ mul-div-cancel a (down-pos e) in
-    ap (λ (b : Bool). signBit b + (size (m * up e * 2 ^ 1074 / down e) - 53) * 2 ^ 52 + m * up e * 2 ^ 1074 / down e / 2 ^ (size (m * up e * 2 ^ 1074 / down e) - 53)) (h .0)
-    ∙ ap (λ (x : ℕ). bitsOfUnits s x) same
 
 -- ---- q times 2^k units, q having its 53 digits or k being 0
 
@@ -182,7 +163,7 @@ packed-bits s n h =
     let q = significandOf n in
     let k = droppedDigits n in
     ap (λ (x : Float). toBits binary64 x) (round-units s n)
-    ∙ value-bits (units binary64 s q k) s (q * 2 ^ k) (units-val binary64 s q k (finite-below q k (significand-le n) (significand-ge n) h))
+    ∙ value-bits binary64 (units binary64 s q k) s (q * 2 ^ k) (units-val binary64 s q k (finite-below q k (significand-le n) (significand-ge n) h))
     ∙ add-assoc (signBit s) ((size (q * 2 ^ k) - 53) * 2 ^ 52) (q * 2 ^ k / 2 ^ (size (q * 2 ^ k) - 53))
     ∙ ap (λ (x : ℕ). signBit s + x) (kept-is q k (significand-le n) (significand-ge n))
 

@@ -15,9 +15,9 @@ use Rattle.codec.proofs.Laws.{AreBytes, take-bytes, drop-bytes}
 use Rattle.refusal.specs.Outcome.{Outcome, accepted, refused}
 use Rattle.refusal.proofs.Outcomes.{accepted-not, accepted-value, refused-below}
 use Rattle.lists.proofs.All.{All}
-use Rattle.columns.specs.declared.Kind.the-variants.{Double}
-use Rattle.patch.specs.File.{rowCount, keyDistance, readGrounds, readOutcome, keyColumn, valueColumn}
-use Rattle.patch.proofs.File.{key-column}
+use Rattle.columns.specs.declared.Kind.{Kind}
+use Rattle.patch.specs.File.{rowCount, keyDistance, kindOf, readGrounds, readOutcome, FileRows, fileOutcome, keyColumn, valueColumn}
+use Rattle.patch.proofs.File.{key-column, said-accepted, said-refused}
 use Rattle.record.specs.Section.{Section}
 use Rattle.table.specs.Calls.{columnGrounds, addGrounds, addSections, addOutcome}
 use Rattle.table.proofs.Bytes.{Storable}
@@ -115,24 +115,24 @@ length-totals ts a h =
 length-refused : (n : ℕ) → n < 100 → length (refusalText n ++ lineFeed) ≤ longestText
 length-refused n h = omega (arith, length-append (refusalText n) lineFeed, length-refusal n (omega arith))
 
-add-number : (ks vs : List ℕ) {n : ℕ} → addOutcome Double emptyTable 0 ks vs tableBytes ≡ refused n → n < 100
+add-number : (kind : Kind) (ks vs : List ℕ) {n : ℕ} → addOutcome kind emptyTable 0 ks vs tableBytes ≡ refused n → n < 100
 unfolding addGrounds columnGrounds
-add-number ks vs e = refused-below 100 (addGrounds Double emptyTable 0 ks vs tableBytes) (length (addSections Double emptyTable 0 ks vs)) refl e
+add-number kind ks vs e = refused-below 100 (addGrounds kind emptyTable 0 ks vs tableBytes) (length (addSections kind emptyTable 0 ks vs)) refl e
 
-read-number : (f : List ℕ) {n : ℕ} → readOutcome Double f ≡ refused n → n < 100
+read-number : (kind : Kind) (f : List ℕ) {n : ℕ} → readOutcome kind f ≡ refused n → n < 100
 unfolding readOutcome readGrounds
-read-number f e = refused-below 100 (readGrounds Double f) (rowCount f) refl e
+read-number kind f e = refused-below 100 (readGrounds kind f) (rowCount f) refl e
 
-length-columns : (ks vs : List ℕ) → AreBytes ks → length (columnsText Double ks vs) ≤ longestText
+length-columns : (kind : Kind) (ks vs : List ℕ) → AreBytes ks → length (columnsText kind ks vs) ≤ longestText
 unfolding columnsText addText tableText headLine
-length-columns ks vs b = by (addOutcome Double emptyTable 0 ks vs tableBytes) refl
+length-columns kind ks vs b = by (addOutcome kind emptyTable 0 ks vs tableBytes) refl
   where
     ts : List Section
-    ts = addSections Double emptyTable 0 ks vs
+    ts = addSections kind emptyTable 0 ks vs
 
-    by : (o : Outcome ℕ) → addOutcome Double emptyTable 0 ks vs tableBytes ≡ o → length (addText o ts) ≤ longestText
+    by : (o : Outcome ℕ) → addOutcome kind emptyTable 0 ks vs tableBytes ≡ o → length (addText o ts) ≤ longestText
     by (accepted g) e =
-        let l = columns-left ks vs g b e in
+        let l = columns-left kind ks vs g b e in
         let room : g ≤ 64 = l .room in
         let all : All Storable ts = rw (← l .has-sections) (l .table .storable) in
         omega (
@@ -143,15 +143,15 @@ length-columns ks vs b = by (addOutcome Double emptyTable 0 ks vs tableBytes) re
           length-lines ts all,
           length-totals ts all (omega (arith, l .groups)),
         )
-    by (refused n) e = length-refused n (add-number ks vs e)
+    by (refused n) e = length-refused n (add-number kind ks vs e)
 
 pub length-report : (f : List ℕ) → AreBytes f → length (reportText f) ≤ longestText
 unfolding reportText fileText
-length-report f b = by (readOutcome Double f) refl
+length-report f b = by (fileOutcome f) refl
   where
-    key-bytes : (n : ℕ) → readOutcome Double f ≡ accepted n → AreBytes (keyColumn Double f)
-    key-bytes n e = rw (key-column Double f e) (take-bytes (4 * n) (drop (length f - keyDistance f) f) (drop-bytes (length f - keyDistance f) f b))
+    key-bytes : (kind : Kind) (n : ℕ) → readOutcome kind f ≡ accepted n → AreBytes (keyColumn kind f)
+    key-bytes kind n e = rw (key-column kind f e) (take-bytes (4 * n) (drop (length f - keyDistance f) f) (drop-bytes (length f - keyDistance f) f b))
 
-    by : (o : Outcome ℕ) → readOutcome Double f ≡ o → length (fileText o f) ≤ longestText
-    by (accepted n) e = length-columns (keyColumn Double f) (valueColumn Double f) (key-bytes n e)
-    by (refused n) e = length-refused n (read-number f e)
+    by : (o : Outcome FileRows) → fileOutcome f ≡ o → length (fileText o f) ≤ longestText
+    by (accepted r) e = length-columns (r .kind) (keyColumn (r .kind) f) (valueColumn (r .kind) f) (key-bytes (r .kind) (r .count) (said-accepted f e))
+    by (refused n) e = length-refused n (read-number (kindOf f) f (said-refused f n .0 e))

@@ -10,36 +10,45 @@ use Rattle.codec.proofs.Laws.{AreBytes}
 use Rattle.refusal.specs.Outcome.{accepted, refused}
 use Rattle.refusal.proofs.Outcomes.{accepted-within}
 use Rattle.output.specs.Output.{outputGround}
+use Rattle.columns.specs.declared.Kind.{Kind}
 use Rattle.columns.specs.declared.Kind.the-variants.{Double}
-use Rattle.patch.specs.File.{readOutcome, keyColumn, valueColumn}
+use Rattle.columns.specs.Columns.{asDoubles}
+use Rattle.patch.specs.File.{kindOf, FileRows, fileOutcome, keyColumn, valueColumn}
+use Rattle.patch.proofs.File.{said-kind}
 use Rattle.record.specs.Section.{sections}
 use Rattle.table.specs.Calls.{addSections, addOutcome, addLeaves}
+use Rattle.table.proofs.AsDoubles.{made-alike}
 use Rattle.table.proofs.Accepted.{AcceptedTable, proper-none, add-left}
 use Rattle.report.specs.Text.{tableBytes, refusalText, lineFeed, emptyTable, tableText, addText, columnsText, fileText, reportText}
 use Rattle.report.specs.Answer.{printOutcome, printLeaves}
 use Rattle.numerals.specs.Steps.{Continued}
 
 -- what an accepted add to the empty table leaves
-pub columns-left : (ks vs : List ℕ) (g : ℕ) → AreBytes ks → addOutcome Double emptyTable 0 ks vs tableBytes ≡ accepted g
-    → AcceptedTable emptyTable (addSections Double emptyTable 0 ks vs) (addLeaves Double emptyTable 0 ks vs tableBytes) g
-columns-left ks vs g a e = add-left emptyTable 0 (proper-none emptyTable) Double ks vs tableBytes a e
+pub columns-left : (kind : Kind) (ks vs : List ℕ) (g : ℕ) → AreBytes ks → addOutcome kind emptyTable 0 ks vs tableBytes ≡ accepted g
+    → AcceptedTable emptyTable (addSections kind emptyTable 0 ks vs) (addLeaves kind emptyTable 0 ks vs tableBytes) g
+columns-left kind ks vs g a e = add-left emptyTable 0 (proper-none emptyTable) kind ks vs tableBytes a e
 
-pub columns-accepted : (ks vs : List ℕ) (g : ℕ) → AreBytes ks → addOutcome Double emptyTable 0 ks vs tableBytes ≡ accepted g
-    → columnsText Double ks vs ≡ tableText (sections (addLeaves Double emptyTable 0 ks vs tableBytes) g)
+pub columns-accepted : (kind : Kind) (ks vs : List ℕ) (g : ℕ) → AreBytes ks → addOutcome kind emptyTable 0 ks vs tableBytes ≡ accepted g
+    → columnsText kind ks vs ≡ tableText (sections (addLeaves kind emptyTable 0 ks vs tableBytes) g)
 unfolding columnsText addText
-columns-accepted ks vs g a e =
-    ap (λ o. addText o (addSections Double emptyTable 0 ks vs)) e
-    ∙ ap tableText (sym (columns-left ks vs g a e .has-sections))
+columns-accepted kind ks vs g a e =
+    ap (λ o. addText o (addSections kind emptyTable 0 ks vs)) e
+    ∙ ap tableText (sym (columns-left kind ks vs g a e .has-sections))
 
-pub columns-refused : (ks vs : List ℕ) (n : ℕ) → addOutcome Double emptyTable 0 ks vs tableBytes ≡ refused n → columnsText Double ks vs ≡ refusalText n ++ lineFeed
+pub columns-refused : (kind : Kind) (ks vs : List ℕ) (n : ℕ) → addOutcome kind emptyTable 0 ks vs tableBytes ≡ refused n → columnsText kind ks vs ≡ refusalText n ++ lineFeed
 unfolding columnsText addText
-columns-refused ks vs n e = ap (λ o. addText o (addSections Double emptyTable 0 ks vs)) e
+columns-refused kind ks vs n e = ap (λ o. addText o (addSections kind emptyTable 0 ks vs)) e
 
-pub file-accepted : (f : List ℕ) (n : ℕ) → readOutcome Double f ≡ accepted n → reportText f ≡ columnsText Double (keyColumn Double f) (valueColumn Double f)
+-- rows of any kind print what the same rows in doubles print
+pub columns-alike : (kind : Kind) (ks vs : List ℕ) → columnsText Double ks (asDoubles kind vs) ≡ columnsText kind ks vs
+unfolding columnsText addText
+columns-alike kind ks vs = made-alike kind emptyTable 0 ks vs tableBytes addText (λ n ts ts′. refl)
+
+pub file-accepted : (f : List ℕ) (r : FileRows) → fileOutcome f ≡ accepted r → reportText f ≡ columnsText (r .kind) (keyColumn (kindOf f) f) (valueColumn (kindOf f) f)
 unfolding reportText fileText
-file-accepted f n e = ap (λ o. fileText o f) e
+file-accepted f r e = ap (λ o. fileText o f) e ∙ ap (λ (kind : Kind). columnsText (r .kind) (keyColumn kind f) (valueColumn kind f)) (sym (said-kind f e))
 
-pub file-refused : (f : List ℕ) (n : ℕ) → readOutcome Double f ≡ refused n → reportText f ≡ refusalText n ++ lineFeed
+pub file-refused : (f : List ℕ) (n : ℕ) → fileOutcome f ≡ refused n → reportText f ≡ refusalText n ++ lineFeed
 unfolding reportText fileText
 file-refused f n e = ap (λ o. fileText o f) e
 

@@ -9,8 +9,9 @@ use Rattle.level.specs.Level.{top, topFrom, given, contribution}
 use Rattle.patch.specs.Cases.{reportInput}
 use Rattle.trailer.specs.Trailer.{trailerOf}
 use Rattle.patch.specs.Serializer.{fileOf}
-use Rattle.patch.specs.File.{marked, outside, overlap, readGrounds, readOutcome, column, keyColumn, valueColumn}
-use Rattle.columns.specs.declared.Kind.the-variants.{Double}
+use Rattle.patch.specs.File.{marked, kindOf, outside, overlap, readGrounds, readOutcome, column, keyColumn, valueColumn}
+use Rattle.single.specs.Single.{widened}
+use Rattle.columns.specs.declared.Kind.the-variants.{Double, Single}
 use Rattle.columns.specs.Columns.{width, rowsFrom, rowsOf, columnsFit}
 use Rattle.record.specs.Keys.{rising}
 use Rattle.record.specs.Sound.{sound, soundRecords}
@@ -29,7 +30,11 @@ use Rattle.report.specs.Text.{headLine, refusalText, figureFields, lastF
 rowsFile : List ℕ → List ℕ → List ℕ
 rowsFile ks vs = fileOf Double (image (bytes 4) ks) (image (bytes (width Double)) vs)
 
--- the report of document 01's input
+-- the same with short floats
+shortRowsFile : List ℕ → List ℕ → List ℕ
+shortRowsFile ks vs = fileOf Single (image (bytes 4) ks) (image (bytes (width Single)) vs)
+
+-- the report of document 01's input, and of its rows in short floats
 sampleText : List ℕ
 sampleText =
     -- section rows bits hundredths side
@@ -66,7 +71,7 @@ mixedText =
     ∷ 0x74 ∷ 0x6F ∷ 0x74 ∷ 0x61 ∷ 0x6C ∷ 0x20 ∷ 0x34 ∷ 0x20 ∷ 0x37 ∷ 0x0A
     ∷ []
 
--- no rows
+-- no rows, in doubles or in short floats
 textWithoutRows : List ℕ
 textWithoutRows =
     -- section rows bits hundredths side
@@ -82,14 +87,14 @@ refusedText =
     0x72 ∷ 0x65 ∷ 0x66 ∷ 0x75 ∷ 0x73 ∷ 0x65 ∷ 0x64 ∷ 0x20 ∷ 0x32 ∷ 0x0A
     ∷ []
 
--- a row that is infinite
+-- a row that is infinite, in doubles or in short floats
 infiniteText : List ℕ
 infiniteText =
     -- refused 10
     0x72 ∷ 0x65 ∷ 0x66 ∷ 0x75 ∷ 0x73 ∷ 0x65 ∷ 0x64 ∷ 0x20 ∷ 0x31 ∷ 0x30 ∷ 0x0A
     ∷ []
 
-reports : map reportText (reportInput ∷ mixed ∷ rowsFile [] [] ∷ [] ∷ rowsFile (1 ∷ []) (0x7FF0000000000000 ∷ []) ∷ [])
-    ≡ sampleText ∷ mixedText ∷ textWithoutRows ∷ refusedText ∷ infiniteText ∷ []
-unfolding reportInput sampleText trailerOf fileOf rowsFile mixed mixedText textWithoutRows refusedText infiniteText reportText fileText columnsText addText tableText totalLine rowTotal lineText lineWith lastFields figureFields refusalText headLine decimal decimalIn digit digits integer number bytes numberAt cells image marked outside overlap readGrounds readOutcome column keyColumn valueColumn rowsFrom rowsOf columnsFit addGrounds columnGrounds anyOf ofRow levelOf combine absorb added top topFrom given contribution rising sound soundRecords kept nearestDouble tooLarge side millFigure beyond round toBits ofBits
+reports : map reportText (reportInput ∷ shortRowsFile (1 ∷ 2 ∷ 1 ∷ []) (0x3F800000 ∷ 0x3E000000 ∷ 0x3F000000 ∷ []) ∷ mixed ∷ rowsFile [] [] ∷ shortRowsFile [] [] ∷ [] ∷ rowsFile (1 ∷ []) (0x7FF0000000000000 ∷ []) ∷ shortRowsFile (1 ∷ []) (0x7F800000 ∷ []) ∷ [])
+    ≡ sampleText ∷ sampleText ∷ mixedText ∷ textWithoutRows ∷ textWithoutRows ∷ refusedText ∷ infiniteText ∷ infiniteText ∷ []
+unfolding reportInput sampleText trailerOf fileOf rowsFile shortRowsFile mixed mixedText textWithoutRows refusedText infiniteText reportText fileText columnsText addText tableText totalLine rowTotal lineText lineWith lastFields figureFields refusalText headLine decimal decimalIn digit digits integer number bytes numberAt cells image marked kindOf outside overlap readGrounds readOutcome column keyColumn valueColumn rowsFrom rowsOf columnsFit addGrounds columnGrounds anyOf ofRow levelOf combine absorb added top topFrom given contribution rising sound soundRecords kept nearestDouble tooLarge side millFigure beyond round widened toBits ofBits
 reports = refl

@@ -8,8 +8,7 @@ use lib.Ieee.{binary64, toBits}
 use Rattle.codec.specs.Cells.{image}
 use Rattle.refusal.specs.Outcome.{Outcome, accepted, refused}
 use Rattle.columns.specs.declared.Kind.{Kind}
-use Rattle.columns.specs.declared.Kind.the-variants.{Double}
-use Rattle.patch.specs.File.{readOutcome, keyColumn, valueColumn}
+use Rattle.patch.specs.File.{FileRows, fileOutcome, keyColumn, valueColumn}
 use Rattle.record.specs.Section.{Section}
 use Rattle.limbs.specs.declared.Side.{Side}
 use Rattle.limbs.specs.Side.{sideNumber}
@@ -101,10 +100,10 @@ unfoldable pub columnsText : Kind → List ℕ → List ℕ → List ℕ
 columnsText kind ks vs = addText (addOutcome kind emptyTable 0 ks vs tableBytes) (addSections kind emptyTable 0 ks vs)
 
 -- what a file prints: only its refusal, or what the add of its columns prints
-unfoldable pub fileText : Outcome ℕ → List ℕ → List ℕ
-fileText (accepted n) f = columnsText Double (keyColumn Double f) (valueColumn Double f)
+unfoldable pub fileText : Outcome FileRows → List ℕ → List ℕ
+fileText (accepted r) f = columnsText (r .kind) (keyColumn (r .kind) f) (valueColumn (r .kind) f)
 fileText (refused n) f = refusalText n ++ lineFeed
 
 -- the report of a file
 unfoldable pub reportText : List ℕ → List ℕ
-reportText f = fileText (readOutcome Double f) f
+reportText f = fileText (fileOutcome f) f

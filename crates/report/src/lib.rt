@@ -14,11 +14,11 @@ ghost use Rattle.finish.specs.Steps.{FiniteSum};
 ghost use Rattle.limbs.specs.Side.{sideNumber};
 ghost use Rattle.numerals.specs.Numerals.{decimal, integer};
 ghost use Rattle.numerals.specs.Steps.{Continued};
-ghost use Rattle.columns.specs.declared.Kind.the-variants.{Double};
 ghost use Rattle.report.specs.Text.{tableGroups, space, lineFeed, refusalText, lastFields, lineWith, finishedText, lineText, totalLine, tableText, columnsText, reportText};
 ghost use Rattle.output.specs.Output.{outputAnswer};
 ghost use Rattle.report.specs.Answer.{printOutcome, printLeaves};
 ghost use Rattle.report.specs.Steps.{longestRefusal, longestKeyAndCount, longestSide, longestFinishedLine, longestRefusedFields, longestLine, longestTotalLine, longestText};
+use columns::Kind;
 use finish::FinishedLine;
 use finish::LineAnswer;
 use finish::SectionSum;
@@ -169,13 +169,13 @@ fn print_table(text: &mut [u8], table: &[u8], g: usize) -> usize
 }
 
 // What the columns print.
-fn print_columns(text: &mut [u8], keys: &[u8], values: &[u8]) -> usize
+fn print_columns(text: &mut [u8], keys: &[u8], values: &[u8], kind: Kind) -> usize
     requires { ⌜ longestText ≤ length (now text) ⌝ }
-    ensures { λ r. ⌜ Continued (now (text .entry)) 0 (columnsText Double (now (keys .entry)) (now (values .entry))) longestText (now (text .exit)) r ⌝ }
+    ensures { λ r. ⌜ Continued (now (text .entry)) 0 (columnsText kind (now (keys .entry)) (now (values .entry))) longestText (now (text .exit)) r ⌝ }
 {
     let mut table = [0u8; TABLE_BYTES];
     let mut work = [0u8; TABLE_BYTES];
-    match add::add(&mut table, 0, keys, values, &mut work) {
+    match add::add(&mut table, 0, keys, values, kind, &mut work) {
         TableAnswer::Groups(g) => print_table(text, &table, g),
         TableAnswer::Refused(r) => print_refusal(text, 0, refusal::number_of(r)),
     }
@@ -187,7 +187,9 @@ fn print_file(text: &mut [u8], file: &[u8]) -> usize
     ensures { λ r. ⌜ Continued (now (text .entry)) 0 (reportText (now (file .entry))) longestText (now (text .exit)) r ⌝ }
 {
     match patch::read(file) {
-        Reading::RowCount(_) => print_columns(text, patch::keys(file), patch::values(file)),
+        Reading::Rows { count: _, kind } => {
+            print_columns(text, patch::keys(file), patch::values(file), kind)
+        }
         Reading::Refused(r) => print_refusal(text, 0, refusal::number_of(r)),
     }
 }

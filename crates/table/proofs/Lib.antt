@@ -6,3 +6,4 @@ pub mod Bytes
 pub mod Totals
 pub mod State
 pub mod Accepted
+pub mod AsDoubles

@@ -133,17 +133,26 @@ fn add_random(t: &mut [u8], g: u64, n: usize, x: u64, kind: u64) -> i64
             std::num::wrapping_add_u64(g, 1),
             part(&keys, n * 4),
             part(&values, n * 8),
+            8,
             &mut work,
         ),
-        1 => exports::girth_add(t, g, part(&keys, n * 4), part(&values, n * 8), &mut short),
+        1 => exports::girth_add(
+            t,
+            g,
+            part(&keys, n * 4),
+            part(&values, n * 8),
+            8,
+            &mut short,
+        ),
         2 => exports::girth_add(
             t,
             g,
             part(&keys, n * 4),
             part(&values, n * 8 + 4),
+            8,
             &mut work,
         ),
-        _ => exports::girth_add(t, g, part(&keys, n * 4), part(&values, n * 8), &mut work),
+        _ => exports::girth_add(t, g, part(&keys, n * 4), part(&values, n * 8), 8, &mut work),
     }
 }
 
@@ -293,11 +302,11 @@ fn add_often(t: &mut [u8], work: &mut [u8], keys: &[u8], values: &[u8]) {
     let mut g: u64 = 0;
     let mut i: u32 = 0;
     while i < 15 {
-        g = groups_after(exports::girth_add(t, g, keys, values, work), g);
+        g = groups_after(exports::girth_add(t, g, keys, values, 8, work), g);
         i += 1;
     }
     print_record(t);
-    exports::girth_add(t, g, part(keys, 4), part(values, 8), work);
+    exports::girth_add(t, g, part(keys, 4), part(values, 8), 8, work);
     print_record(t);
 }
 
@@ -315,20 +324,31 @@ fn run_ones() {
 fn print_file(file: &[u8]) {
     let mut keys: u64 = 9;
     let mut values: u64 = 9;
-    let n = exports::girth_read(file, &mut keys, &mut values);
+    let mut width: u64 = 9;
+    let n = exports::girth_read(file, &mut keys, &mut values, &mut width);
     print(word(n));
     print(keys);
     print(values);
+    print(width);
     end_line();
 }
 
-// A file of 64 bytes whose trailer is near a good one.
+// A mark of doubles, of short floats or of neither.
+fn patch_mark(x: u64) -> u32 {
+    match x % 3 {
+        0 => 0x5453414C,
+        1 => 0x3453414C,
+        _ => 0x5453414B,
+    }
+}
+
+// A file of 64 bytes whose trailer is near a good one; the mark is of either kind, or of none.
 fn run_file(x: u64) {
     let mut file = [0u8; 64];
     codec::put_u32(&mut file, 48, (x % 4) as u32);
     codec::put_u32(&mut file, 52, (14 + (x >> 8) % 64) as u32);
     codec::put_u32(&mut file, 56, (14 + (x >> 16) % 64) as u32);
-    codec::put_u32(&mut file, 60, (0x5453414C - (x >> 24) % 2) as u32);
+    codec::put_u32(&mut file, 60, patch_mark(x >> 24));
     print_file(&file);
 }
 
@@ -405,7 +425,7 @@ fn run_full() {
     fill_sections(&mut keys, &mut values, 1024);
     let mut t = [0u8; 65536];
     let mut work = [0u8; 65536];
-    print(word(exports::girth_add(&mut t, 0, &keys, &values, &mut work)));
+    print(word(exports::girth_add(&mut t, 0, &keys, &values, 8, &mut work)));
     let mut out = [0xC3u8; 65560];
     save_full(&t, &mut out, &mut work);
 }

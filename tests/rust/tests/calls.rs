@@ -1,5 +1,6 @@
 //! The library's calls beside the exact model, on documents' figures and on random and damaged input.
 mod model;
+use calls::Kind;
 use model::{Big, Rows, Section};
 use std::collections::{BTreeMap, BTreeSet};
 
@@ -57,6 +58,46 @@ impl Random {
         b | self.below(2) << 63
     }
 
+    /// The bits of a finite short float; fields lie close together around a middle, and some are subnormal.
+    fn short(&mut self, middle: u64) -> u32 {
+        let field = match self.below(8) {
+            0 => self.below(255),
+            1 => 0,
+            2 => (middle + self.below(60)).min(254),
+            _ => (middle + self.below(16)).min(254),
+        };
+        let fraction = match self.below(4) {
+            0 => [0, 1, (1 << 23) - 1][self.below(3) as usize],
+            1 => self.below(1 << 23) << self.below(23) & ((1 << 23) - 1),
+            _ => self.below(1 << 23),
+        };
+        (self.below(2) << 31 | field << 23 | fraction) as u32
+    }
+
+    fn shorts(&mut self, n: usize) -> Vec<u32> {
+        let middle = self.below(255);
+        let mut rows = Vec::new();
+        while rows.len() < n {
+            rows.push(self.short(middle));
+            if self.chance(4) && rows.len() < n {
+                rows.push(rows[rows.len() - 1] ^ 1 << 31);
+            }
+        }
+        rows
+    }
+
+    /// Random rows of either kind, in sections below a number: two columns with the width of a value, and the rows as doubles.
+    fn patch(&mut self, n: usize, span: u64) -> (Vec<u8>, Vec<u8>, u64, Vec<(u32, u64)>) {
+        if self.chance(2) {
+            let rows: Vec<(u32, u64)> = self.rows(n).into_iter().map(|b| (self.below(span) as u32, b)).collect();
+            let (k, v) = columns(&rows);
+            return (k, v, 8, rows);
+        }
+        let rows: Vec<(u32, u32)> = self.shorts(n).into_iter().map(|b| (self.below(span) as u32, b)).collect();
+        let (k, v) = short_columns(&rows);
+        (k, v, 4, widened(&rows))
+    }
+
     fn rows(&mut self, n: usize) -> Vec<u64> {
         let middle = self.below(2047);
         let mut rows = Vec::new();
@@ -75,18 +116,36 @@ fn columns(rows: &[(u32, u64)]) -> (Vec<u8>, Vec<u8>) {
     (rows.iter().flat_map(|r| r.0.to_le_bytes()).collect(), rows.iter().flat_map(|r| r.1.to_le_bytes()).collect())
 }
 
+fn short_columns(rows: &[(u32, u32)]) -> (Vec<u8>, Vec<u8>) {
+    (rows.iter().flat_map(|r| r.0.to_le_bytes()).collect(), rows.iter().flat_map(|r| r.1.to_le_bytes()).collect())
+}
+
+/// The same rows as doubles.
+fn widened(rows: &[(u32, u32)]) -> Vec<(u32, u64)> {
+    rows.iter().map(|r| (r.0, model::widened(r.1).expect("a finite row"))).collect()
+}
+
 fn of_values(rows: &[u64]) -> (Vec<u8>, u64) {
     let mut t = vec![0; 64];
     let (k, v) = columns(&rows.iter().map(|&b| (7, b)).collect::<Vec<_>>());
-    let g = calls::add(&mut t, 0, &k, &v, &mut [0; 64]).unwrap();
+    let g = calls::add(&mut t, 0, &k, &v, Kind::Double, &mut [0; 64]).unwrap();
     (t, g)
 }
 
-/// One add, compared with the model: the answer, every byte of the table, the work buffer.
+/// One add of doubles, compared with the model.
 fn add_both(table: &mut Vec<u8>, g: u64, keys: &[u8], values: &[u8], work: &mut [u8]) -> Result<u64, u32> {
-    let expected = model::add(table, g, keys, values, work.len());
+    add_both_of(table, g, keys, values, 8, work)
+}
+
+/// One add that is told a width, compared with the model: the answer, every byte of the table, the work buffer.
+fn add_both_of(table: &mut Vec<u8>, g: u64, keys: &[u8], values: &[u8], width: u64, work: &mut [u8]) -> Result<u64, u32> {
+    let expected = model::add(table, g, keys, values, width, work.len());
     let before = table.clone();
-    let got = calls::add(table, g, keys, values, work);
+    let got = match width {
+        8 => calls::add(table, g, keys, values, Kind::Double, work),
+        4 => calls::add(table, g, keys, values, Kind::Single, work),
+        _ => calls::add_of_width(table, g, keys, values, width, work),
+    };
     assert!(work.iter().all(|&x| x == 0), "the work buffer holds zeros");
     match &expected {
         Ok((n, bytes)) => assert!(got == Ok(*n) && table == bytes, "{got:?}, expected {n}"),
@@ -153,12 +212,19 @@ fn file(notes: &[u8], keys: &[u8], between: &[u8], values: &[u8], after: &[u8], 
     f
 }
 
+/// The same file as one of short floats: its last four bytes are their mark.
+fn with_short_mark(mut file: Vec<u8>) -> Vec<u8> {
+    let at = file.len() - 4;
+    file[at..].copy_from_slice(&[0x4C, 0x41, 0x53, 0x34]);
+    file
+}
+
 fn read_both(file: &[u8]) -> Result<usize, u32> {
     let got = calls::read(file);
     match model::read(file) {
-        Ok((n, k, v)) => {
+        Ok((n, k, v, width)) => {
             let c = got.unwrap();
-            assert_eq!((c.rows, c.keys, c.values), (n, &file[k..k + 4 * n], &file[v..v + 8 * n]));
+            assert_eq!((c.rows, c.keys, c.values, c.kind.width()), (n, &file[k..k + 4 * n], &file[v..v + width * n], width));
         }
         Err(e) => assert_eq!(got, Err(e)),
     }
@@ -174,7 +240,7 @@ fn write_both(keys: &[u8], values: &[u8], out: &mut [u8]) -> Result<usize, u32> 
             assert!(got == Ok(*n) && out == bytes, "{got:?}, expected {n}");
             assert_eq!(read_both(&out[..*n]), Ok(keys.len() / 4));
             let c = calls::read(&out[..*n]).unwrap();
-            assert!(c.keys == keys && c.values == values, "the columns are read as they were lent");
+            assert!(c.keys == keys && c.values == values && c.kind == Kind::Double, "the columns are read as they were lent");
         }
         Err(e) => assert!(got == Err(*e) && out == before, "{got:?}, expected refusal {e}"),
     }
@@ -183,7 +249,8 @@ fn write_both(keys: &[u8], values: &[u8], out: &mut [u8]) -> Result<usize, u32> 
 
 /// An accepted file, written again from its two columns.
 fn rewritten(file: &[u8]) -> Vec<u8> {
-    let (n, k, v) = model::read(file).unwrap();
+    let (n, k, v, width) = model::read(file).unwrap();
+    assert_eq!(width, 8, "a file of doubles");
     let mut out = vec![0xA5; 65536];
     let length = write_both(&file[k..k + 4 * n], &file[v..v + 8 * n], &mut out).unwrap();
     out.truncate(length);
@@ -283,6 +350,14 @@ fn every_refusal() {
     let trailer = |n: u32, k: u32, v: u32| {
         [&n.to_le_bytes()[..], &k.to_le_bytes(), &v.to_le_bytes(), &[0x4C, 0x41, 0x53, 0x54]].concat()
     };
+    let short = |n, k, v| with_short_mark(trailer(n, k, v));
+    assert_eq!(read_both(&short(0, 15, 16)), Err(4));
+    assert_eq!(read_both(&short(0, 16, 17)), Err(5));
+    assert_eq!(read_both(&[vec![0; 8], short(1, 24, 19)].concat()), Err(5));
+    assert_eq!(read_both(&[vec![0; 7], short(1, 23, 20)].concat()), Err(6));
+    assert_eq!(read_both(&[vec![0; 8], short(1, 24, 20)].concat()), Ok(1));
+    assert_eq!(add_both_of(&mut vec![5; 64], 0, &[0; 8], &[0; 16], 4, &mut [9; 64]), Err(9));
+    assert_eq!(add_both_of(&mut vec![5; 64], 0, &[0; 4], &[0, 0, 0x80, 0x7F], 4, &mut [9; 64]), Err(10));
     assert_eq!(read_both(&vec![0; 65537]), Err(1));
     assert_eq!(read_both(&[]), Err(2));
     assert_eq!(read_both(&[0; 16]), Err(3));
@@ -316,12 +391,18 @@ fn every_refusal() {
 #[test]
 fn files() {
     let mut r = Random(1);
-    let mut seen = [0; 7];
-    for turn in 0..40000 {
-        let n = r.below(if turn % 50 == 0 { 5461 } else { 12 }) as usize;
+    // by the refusal, or 0 for an accepted file, and by whether it ends with the mark of short floats
+    let mut seen = BTreeMap::new();
+    for turn in 0..60000 {
+        let short = r.chance(2);
+        let (width, most) = if short { (4, 8191) } else { (8, 5461) };
+        let n = r.below(if turn % 50 == 0 { most } else { 12 }) as usize;
         let (a, b, c) = (r.below(9) as usize, r.below(9) as usize, r.below(9) as usize);
-        let (k, v) = (r.bytes(4 * n), r.bytes(8 * n));
+        let (k, v) = (r.bytes(4 * n), r.bytes(width * n));
         let mut f = file(&r.bytes(a), &k, &r.bytes(b), &v, &r.bytes(c), r.chance(2));
+        if short {
+            f = with_short_mark(f);
+        }
         for _ in 0..r.below(3) {
             let at = f.len() - 1 - r.below(16) as usize;
             f[at] = if r.chance(2) { r.below(64) as u8 } else { f[at].wrapping_add(r.below(17) as u8).wrapping_sub(8) };
@@ -332,9 +413,13 @@ fn files() {
         if r.chance(400) {
             f = [vec![0; 65530], f].concat();
         }
-        seen[read_both(&f).err().unwrap_or(0) as usize] += 1;
+        let marked = f.len() >= 16 && f.ends_with(&[0x4C, 0x41, 0x53, 0x34]);
+        *seen.entry((read_both(&f).err().unwrap_or(0), marked)).or_insert(0) += 1;
     }
-    assert!(seen.iter().all(|&n| n > 0), "{seen:?}");
+    for kind in [(1, false), (1, true), (2, false), (3, false), (4, false), (4, true), (5, false), (5, true), (6, false), (6, true), (0, false), (0, true)] {
+        assert!(seen.get(&kind).is_some_and(|&n| n > 20), "{kind:?}: {seen:?}");
+    }
+    assert!(seen.len() == 12, "{seen:?}");
 }
 
 /// 9, then 17, then 16: each alone, and each where those after it hold too.
@@ -431,7 +516,7 @@ fn rewritings() {
             let at = f.len() - [12, 8][r.below(2) as usize];
             f[at] = f[at].wrapping_add(r.below(9) as u8);
         }
-        let Ok((n, k, v)) = model::read(&f) else { continue };
+        let Ok((n, k, v, _)) = model::read(&f) else { continue };
         let (keys, values) = (&f[k..k + 4 * n], &f[v..v + 8 * n]);
 
         let once = rewritten(&f);
@@ -447,7 +532,7 @@ fn rewritings() {
         // what is read from the rewritten file does what the file's rows do, whole and in two parts
         let groups = r.below(12) as usize;
         let (start, g) = table(&mut r, groups, 16, span);
-        let add = |t: &mut Vec<u8>, g, c: calls::Columns| calls::add(t, g, c.keys, c.values, &mut [1; 64 * 17]);
+        let add = |t: &mut Vec<u8>, g, c: calls::Columns| calls::add(t, g, c.keys, c.values, c.kind, &mut [1; 64 * 17]);
         let (mut whole, mut again) = (start.clone(), start.clone());
         let answer = add(&mut whole, g, calls::read(&f).unwrap());
         assert_eq!((add(&mut again, g, c), &again), (answer, &whole));
@@ -565,6 +650,291 @@ fn adds() {
     assert!(seen[0] > 100 && seen[7..].iter().all(|&n| n > 0), "{seen:?}");
 }
 
+/// Adds that are told a width, random and damaged ones among them. An add of short floats answers and leaves what the add of the same rows in doubles does.
+#[test]
+fn adds_of_short_floats() {
+    let mut r = Random(32);
+    let mut seen = [0; 13];
+    for _ in 0..4000 {
+        let (room, span, groups) = (r.below(12) as usize, 1 + r.below(16), r.below(12) as usize);
+        let (mut t, mut g) = table(&mut r, groups, room, span);
+        damage(&mut r, &mut t, &mut g);
+        for _ in 0..3 {
+            let n = r.below(12) as usize;
+            let rows: Vec<(u32, u32)> = r.shorts(n).into_iter().map(|b| (r.below(span) as u32, b)).collect();
+            let ((mut k, mut v), (_, mut doubles)) = (short_columns(&rows), columns(&widened(&rows)));
+            if r.chance(12) {
+                k.truncate(k.len() - r.below(9).min(k.len() as u64) as usize);
+            }
+            if r.chance(12) && n > 0 {
+                // any infinite value and any that is not a number, and the infinite double beside it
+                let i = r.below(n as u64) as usize;
+                let fraction = if r.chance(3) { 0 } else { r.below(1 << 23) } as u32;
+                v[4 * i..4 * i + 4].copy_from_slice(&((r.below(2) as u32) << 31 | 255 << 23 | fraction).to_le_bytes());
+                doubles[8 * i..8 * i + 8].copy_from_slice(&f64::INFINITY.to_le_bytes());
+            }
+            let length = (t.len() + r.below(64) as usize).saturating_sub(if r.chance(12) { 64 } else { 0 });
+            let (mut same, mut work) = (t.clone(), r.bytes(length));
+            let answer = add_both_of(&mut t, g, &k, &v, 4, &mut r.bytes(length));
+            assert_eq!(calls::add(&mut same, g, &k, &doubles, Kind::Double, &mut work), answer);
+            assert!(same == t && work.iter().all(|&x| x == 0), "the same rows in doubles");
+            g = answer.unwrap_or(g);
+            seen[answer.err().unwrap_or(0) as usize] += 1;
+        }
+        for key in 0..span as u32 + 1 {
+            finish_both(&t, g, key).ok();
+        }
+        totals_both(&t, g).ok();
+    }
+    assert!(seen[0] > 100 && seen[7..].iter().all(|&n| n > 20), "{seen:?}");
+}
+
+/// Short floats of every field, of both signs, with the smallest and the largest fraction, a half, and some at random: each alone in a table is the double that the model makes of it,
+/// and is refused where the field is the last one.
+#[test]
+fn short_floats_of_every_field() {
+    let mut r = Random(33);
+    let (mut finite, mut subnormal, mut refused) = (0, 0, 0);
+    for field in 0..256u32 {
+        let mut fractions = vec![0, 1, 2, (1 << 22) - 1, 1 << 22, (1 << 23) - 2, (1 << 23) - 1];
+        fractions.extend((0..9).map(|_| r.below(1 << 23) as u32 >> r.below(23)));
+        for fraction in fractions {
+            for sign in [0, 1 << 31] {
+                let bits = sign | field << 23 | fraction;
+                let (mut t, key) = (r.bytes(64), [7, 0, 0, 0]);
+                let answer = add_both_of(&mut t, 0, &key, &bits.to_le_bytes(), 4, &mut [1; 64]);
+                assert_eq!(answer, if field == 255 { Err(10) } else { Ok(1) }, "{bits:08X}");
+                refused += (field == 255) as u32;
+                let Some(double) = model::widened(bits) else { continue };
+                assert_eq!(double, f64::from(f32::from_bits(bits)).to_bits(), "{bits:08X}");
+                assert_eq!(of_values(&[double]).0, t, "{bits:08X}");
+                assert_eq!(finish_both(&t, 1, 7).err().filter(|e| *e != 15), None);
+                // a zero of either sign sums to +0
+                assert_eq!(calls::sum(&t, 1, 7).unwrap().bits, if bits << 1 == 0 { 0 } else { double });
+                (finite, subnormal) = (finite + 1, subnormal + (field == 0) as u32);
+            }
+        }
+    }
+    assert_eq!((finite, subnormal, refused), (255 * 32, 32, 32));
+}
+
+/// Every subnormal size, with one sign or the other, and many others, each in a section of its own: the table is that of the doubles which the machine's own widening gives.
+#[test]
+fn short_floats_as_the_machine_widens_them() {
+    let mut r = Random(34);
+    let keys: Vec<u8> = (0..1024u32).flat_map(u32::to_le_bytes).collect();
+    let (mut tables, mut work) = ([vec![0; 65536], vec![0; 65536]], vec![1; 65536]);
+    let mut compare = |bits: Vec<u32>| {
+        let short: Vec<u8> = bits.iter().flat_map(|b| b.to_le_bytes()).collect();
+        let doubles: Vec<u8> = bits.iter().flat_map(|b| f64::from(f32::from_bits(*b)).to_le_bytes()).collect();
+        assert_eq!(calls::add(&mut tables[0], 0, &keys, &short, Kind::Single, &mut work), Ok(1024));
+        assert_eq!(calls::add(&mut tables[1], 0, &keys, &doubles, Kind::Double, &mut work), Ok(1024));
+        assert!(tables[0] == tables[1], "{bits:08X?}");
+    };
+    for part in 0..8192 {
+        compare((0..1024).map(|i| part << 10 | i | (r.below(2) as u32) << 31).collect());
+        compare((0..1024).map(|_| r.below(255 << 23) as u32 | (r.below(2) as u32) << 31).collect());
+    }
+}
+
+/// Widths of no kind, with columns that fit one of the kinds or no row count, of zeros or of what is not a number: 7, then 8, then 9. Only 4 and 8 have a kind, and no
+/// number whose lowest bytes alone are theirs.
+#[test]
+fn widths() {
+    let mut r = Random(35);
+    let sound = records(2);
+    let mut unsound = sound.clone();
+    unsound[64 + 4..64 + 8].fill(0);
+    let others = [0, 1, 2, 3, 5, 6, 7, 9, 12, 16, 32, 64, 1 << 32, (1 << 32) + 4, (1 << 32) + 8, (1 << 63) + 8, u64::MAX - 7, u64::MAX - 3, u64::MAX];
+    for width in others.into_iter().chain((0..40).map(|i| 1 << i | 1 << (i + 20))) {
+        for (keys, values) in [(0, 0), (4, 4), (4, 8), (8, 8), (8, 16), (12, 12), (4, 0), (4, 12), (3, 8), (4, width.min(40) as usize), (8, 2 * width.min(40) as usize)] {
+            for fill in [0, 0xFF] {
+                for (t, room, expected) in [(&unsound, 128, 7), (&unsound, 127, 7), (&sound, 127, 8), (&sound, 0, 8), (&sound, 128, 9), (&sound, 999, 9)] {
+                    let (k, v) = (r.bytes(keys), vec![fill; values]);
+                    assert_eq!(add_both_of(&mut t.clone(), 2, &k, &v, width, &mut r.bytes(room)), Err(expected), "width {width}, {keys} and {values} bytes");
+                }
+            }
+        }
+    }
+}
+
+/// Columns of every small length for either kind: they are taken where some row count fits, so that columns which fit the other kind alone are refused.
+#[test]
+fn columns_of_either_width() {
+    let mut taken = [0; 2];
+    for (keys, values) in (0..40).flat_map(|k| (0..72).map(move |v| (k, v))) {
+        for width in [4, 8] {
+            let answer = add_both_of(&mut vec![0xA5; 640], 0, &vec![0; keys], &vec![0; values], width, &mut [1; 640]);
+            let fits = keys % 4 == 0 && values as u64 == width * keys as u64 / 4;
+            assert_eq!(answer, if fits { Ok((keys > 0) as u64) } else { Err(9) }, "{keys} and {values} bytes, width {width}");
+            taken[(width == 4) as usize] += fits as u32;
+        }
+    }
+    assert_eq!(taken, [9, 10]);
+    // what the file of one kind has in its columns is no column of the other
+    for n in 1..9 {
+        for (width, other) in [(4, 8), (8, 4)] {
+            assert_eq!(add_both_of(&mut vec![0; 64], 0, &vec![0; 4 * n], &vec![0; width * n], other, &mut [1; 64]), Err(9));
+        }
+    }
+}
+
+/// Every value of each byte of the mark: a file has one of two marks, and its last byte alone tells which.
+#[test]
+fn marks() {
+    let (k, v) = short_columns(&[(1, 0x3F800000), (2, 0x3E000000)]);
+    let short = with_short_mark(file(&[9; 40], &k, &[], &v, &[], false));
+    let mut doubles = file(&[9; 32], &k, &[], &[v.clone(), v].concat(), &[], false);
+    for (f, own, width, other) in [(short, 0x34, 4, 0x54), (doubles.clone(), 0x54, 8, 0x34)] {
+        for (at, byte) in (0..4).flat_map(|at| (0..=255u8).map(move |b| (at, b))) {
+            let mut changed = f.clone();
+            changed[f.len() - 4 + at] = byte;
+            let answer = read_both(&changed);
+            let marked = byte == f[f.len() - 4 + at] || at == 3 && byte == other;
+            // 8n bytes of values have no room where the column has 4n
+            let expected = if !marked { Err(3) } else if byte == 0x54 && width == 4 { Err(5) } else { Ok(2) };
+            assert_eq!(answer, expected, "byte {byte:02X} of the mark {own:02X} at {at}");
+        }
+    }
+    // the bytes of a file of doubles, read as short floats: the front of its value column
+    doubles = with_short_mark(doubles);
+    let c = calls::read(&doubles).unwrap();
+    assert_eq!((c.rows, c.values.len(), c.kind), (2, 8, Kind::Single));
+}
+
+/// A file of short floats at the edges of 1, 4, 5 and 6: 8,190 rows are accepted in 65,536 bytes, and no more.
+#[test]
+fn edges_of_short_files() {
+    let with = |front: usize, n: u32, k: u32, v: u32| {
+        let mut f = vec![0x55; front];
+        for x in [n, k, v] {
+            f.extend(x.to_le_bytes());
+        }
+        f.extend([0x4C, 0x41, 0x53, 0x34]);
+        f
+    };
+    for (front, n, k, v, answer) in [
+        (65520, 8190, 65536, 32776, Ok(8190)),
+        (65520, 8190, 32776, 65536, Ok(8190)),
+        (65521, 8190, 65536, 32776, Err(1)),
+        (65528, 8191, 65544, 32780, Err(1)),
+        (65520, 8191, 65536, 32780, Err(6)),
+        (65520, 8191, 65537, 32780, Err(4)),
+        (65520, 8191, 65536, 32779, Err(5)),
+        (65520, 8191, 65536, 65537, Err(5)),
+        (65520, 8190, 65535, 32776, Err(6)),
+        (65520, 8190, 65536, 32777, Err(6)),
+        (65520, 5461, 65536, 21860, Ok(5461)),
+        // one row: a value column of 4 bytes, before the trailer and after the keys
+        (8, 1, 24, 20, Ok(1)),
+        (8, 1, 20, 24, Ok(1)),
+        (8, 1, 24, 19, Err(5)),
+        (8, 1, 24, 24, Err(6)),
+        (8, 1, 24, 21, Err(6)),
+        (8, 1, 23, 20, Err(6)),
+        (8, 1, 20, 21, Err(6)),
+        (8, 1, 24, 25, Err(5)),
+        (8, 1, 19, 24, Err(4)),
+        (9, 1, 25, 20, Ok(1)),
+        (9, 1, 25, 21, Ok(1)),
+        (9, 1, 20, 25, Ok(1)),
+        // no row
+        (0, 0, 16, 16, Ok(0)),
+        (0, 0, 16, 15, Err(5)),
+        (0, 0, 15, 16, Err(4)),
+        (5, 0, 21, 16, Ok(0)),
+        (5, 0, 21, 22, Err(5)),
+        // row counts whose bytes are few in 32 bits
+        (8, 1 << 30, 24, 20, Err(4)),
+        (8, (1 << 30) + 1, 24, 20, Err(4)),
+        (8, u32::MAX, 24, 20, Err(4)),
+    ] {
+        let f = with(front, n, k, v);
+        assert_eq!(read_both(&f), answer, "{n} rows, {k}, {v} in {} bytes", f.len());
+    }
+    // the most rows through a table, beside the same as doubles in two adds
+    let mut r = Random(36);
+    let rows: Vec<(u32, u32)> = r.shorts(8190).into_iter().map(|b| (r.below(64) as u32, b)).collect();
+    let (k, v) = short_columns(&rows);
+    let full = with_short_mark(file(&[], &k, &[], &v, &[], false));
+    assert_eq!((full.len(), read_both(&full)), (65536, Ok(8190)));
+    let c = calls::read(&full).unwrap();
+    let (mut short, mut doubles) = (vec![0; 4096], vec![0; 4096]);
+    let mut g = 0;
+    for part in rows.chunks(5460) {
+        let (k, v) = columns(&widened(part));
+        g = add_both(&mut doubles, g, &k, &v, &mut [1; 4096]).unwrap();
+    }
+    assert_eq!(add_both_of(&mut short, 0, c.keys, c.values, 4, &mut [1; 4096]), Ok(g));
+    assert!(short == doubles);
+    assert_eq!(report_both(&full, 4096).lines().last(), Some("total 64 8190"));
+}
+
+/// One multiset of short rows in many orders, splits, merges, saves and loads, every part added as short floats or as doubles.
+#[test]
+fn same_bytes_of_both_kinds() {
+    let mut r = Random(37);
+    let mut parts = [0; 2];
+    for _ in 0..150 {
+        let (n, span) = (1 + r.below(120) as usize, 1 + r.below(20));
+        let mut rows: Vec<(u32, u32)> = r.shorts(n).into_iter().map(|b| (r.below(span) as u32, b)).collect();
+        let (k, v) = columns(&widened(&rows));
+        let mut expected = vec![0; 64 * 24];
+        let groups = add_both(&mut expected, 0, &k, &v, &mut [1; 64 * 24]).unwrap();
+        for _ in 0..8 {
+            r.shuffle(&mut rows);
+            let mut tables = vec![(r.bytes(64 * 24), 0u64); 1 + r.below(4) as usize];
+            let mut rest = &rows[..];
+            while !rest.is_empty() {
+                let (now, later) = rest.split_at(1 + r.below(rest.len() as u64) as usize);
+                rest = later;
+                let short = r.chance(2);
+                let (k, v) = if short { short_columns(now) } else { columns(&widened(now)) };
+                let which = r.below(tables.len() as u64) as usize;
+                let (t, g) = &mut tables[which];
+                let kind = if short { Kind::Single } else { Kind::Double };
+                *g = calls::add(t, *g, &k, &v, kind, &mut vec![1; 64 * 24]).unwrap();
+                parts[short as usize] += 1;
+                if r.chance(4) {
+                    let file = saved(&mut r, t, *g);
+                    *t = strange(&mut r, &file, 64 * 24);
+                    assert_eq!(load_both(&file, t), Ok(*g));
+                }
+            }
+            while tables.len() > 1 {
+                let from = r.below(tables.len() as u64) as usize;
+                let (second, g2) = tables.swap_remove(from);
+                let into = r.below(tables.len() as u64) as usize;
+                let (first, g1) = &mut tables[into];
+                *g1 = calls::merge(first, *g1, &second, g2).unwrap();
+            }
+            let (t, g) = &tables[0];
+            assert!(*g == groups && t[..64 * groups as usize] == expected[..64 * groups as usize]);
+            assert_eq!(totals_both(t, *g), Ok(Rows::of(&widened(&rows)).totals()));
+        }
+    }
+    assert!(parts.iter().all(|&n| n > 1000), "{parts:?}");
+}
+
+/// Writing stays with doubles: the columns of a file of short floats fit no row count there, and as doubles they make a file with the same report.
+#[test]
+fn short_floats_are_written_as_doubles() {
+    let mut r = Random(38);
+    for n in (0..40).chain([5460, 5461, 8190]) {
+        let rows: Vec<(u32, u32)> = r.shorts(n).into_iter().map(|b| (r.below(9) as u32, b)).collect();
+        let (k, v) = short_columns(&rows);
+        assert_eq!(write_both(&k, &v, &mut vec![0xA5; 70000]).err(), if n == 0 { None } else { Some(9) });
+        let (k, doubles) = columns(&widened(&rows));
+        let mut out = vec![0xA5; 65536];
+        let written = write_both(&k, &doubles, &mut out);
+        assert_eq!(written.err(), if n > 5460 { Some(17) } else { None });
+        if let Ok(length) = written {
+            let short = with_short_mark(file(&[], &k, &[], &v, &[], n % 2 == 0));
+            assert_eq!(report_both(&short, 4096), report_both(&out[..length], 4096));
+        }
+    }
+}
+
 #[test]
 fn merges() {
     let mut r = Random(3);
@@ -602,7 +972,7 @@ fn same_bytes() {
                 let (k, v) = columns(now);
                 let which = r.below(tables.len() as u64) as usize;
                 let (t, g) = &mut tables[which];
-                *g = calls::add(t, *g, &k, &v, &mut vec![1; 64 * 24]).unwrap();
+                *g = calls::add(t, *g, &k, &v, Kind::Double, &mut vec![1; 64 * 24]).unwrap();
             }
             while tables.len() > 1 {
                 let from = r.below(tables.len() as u64) as usize;
@@ -619,62 +989,75 @@ fn same_bytes() {
     }
 }
 
-/// Tables that start empty: their bytes, group count, and the rows that accepted calls brought.
-struct Tables(Vec<(Vec<u8>, u64, Rows)>);
+/// Tables that start empty.
+struct Tables {
+    /// Their bytes, group count, and the rows that accepted calls brought.
+    all: Vec<(Vec<u8>, u64, Rows)>,
+    /// Whether each has had doubles, and short floats.
+    kinds: Vec<[bool; 2]>,
+    /// How many adds of either kind came to a table that had the other.
+    mixed: [u32; 2],
+}
 
 impl Tables {
     fn random(r: &mut Random) -> Tables {
         let lengths: Vec<u64> = (0..3).map(|_| 64 * r.below(12) + r.below(64)).collect();
-        Tables(lengths.into_iter().map(|n| (r.bytes(n as usize), 0, Rows::default())).collect())
+        let all = lengths.into_iter().map(|n| (r.bytes(n as usize), 0, Rows::default())).collect();
+        Tables { all, kinds: vec![[false; 2]; 3], mixed: [0; 2] }
     }
 
-    /// An add, at times with a column, a row or a work buffer that is refused.
+    /// An add of rows of either kind, at times with a column, a row, a width or a work buffer that is refused.
     fn add(&mut self, r: &mut Random, i: usize, span: u64) -> Result<u64, u32> {
-        let (t, g, held) = &mut self.0[i];
+        let (t, g, held) = &mut self.all[i];
         let n = r.below(6) as usize;
-        let rows: Vec<(u32, u64)> = r.rows(n).into_iter().map(|b| (r.below(span) as u32, b)).collect();
-        let (mut k, mut v) = columns(&rows);
+        let (mut k, mut v, mut width, rows) = r.patch(n, span);
+        let kind = (width == 4) as usize;
         let mut work = r.bytes(t.len());
         match r.below(16) {
             0 => k.push(0),
-            1 if n > 0 => v[8 * n - 2..].copy_from_slice(&[0xF0, 0x7F]),
+            // the upper bytes of a value that is infinite or not a number, of either width
+            1 if n > 0 => v[width as usize * n - 2..].copy_from_slice(&[0xF0, 0x7F]),
             2 => work.truncate(t.len().saturating_sub(1)),
+            3 if r.chance(4) => width = r.next() >> r.below(64),
             _ => {}
         }
-        let answer = add_both(t, *g, &k, &v, &mut work);
+        let answer = add_both_of(t, *g, &k, &v, width, &mut work);
         if let Ok(after) = answer {
             *g = after;
             held.take(&Rows::of(&rows));
+            self.kinds[i][kind] |= n > 0;
+            self.mixed[kind] += (n > 0 && self.kinds[i][1 - kind]) as u32;
         }
         answer
     }
 
     fn merge(&mut self, i: usize, j: usize) -> Result<u64, u32> {
-        let (second, g2, brought) = self.0[j].clone();
-        let (first, g1, held) = &mut self.0[i];
+        let (second, g2, brought) = self.all[j].clone();
+        let (first, g1, held) = &mut self.all[i];
         let answer = merge_both(first, *g1, &second, g2);
         if let Ok(after) = answer {
             *g1 = after;
             held.take(&brought);
+            self.kinds[i] = [0, 1].map(|kind| self.kinds[i][kind] || self.kinds[j][kind]);
         }
         answer
     }
 
     /// The largest number of rows, after a look that every table has those of the calls.
     fn look(&self) -> u64 {
-        for (t, g, held) in &self.0 {
+        for (t, g, held) in &self.all {
             assert_eq!(totals_both(t, *g), Ok(held.totals()));
         }
-        self.0.iter().map(|t| t.2.totals().1).max().unwrap()
+        self.all.iter().map(|t| t.2.totals().1).max().unwrap()
     }
 }
 
-/// Lists of adds, merges and finishings, refused ones among them, with row counts up to the largest: after every call the totals are those of the
+/// Lists of adds of both kinds, merges and finishings, refused ones among them, with row counts up to the largest: after every call the totals are those of the
 /// rows that the calls brought.
 #[test]
 fn totals_after_calls() {
     let mut r = Random(13);
-    let (mut seen, mut most) = ([0; 13], 0);
+    let (mut seen, mut most, mut mixed) = ([0; 13], 0, [0; 2]);
     for _ in 0..60 {
         let span = 1 + r.below(12);
         let mut tables = Tables::random(&mut r);
@@ -682,16 +1065,17 @@ fn totals_after_calls() {
         for _ in 0..150 {
             let i = r.below(3) as usize;
             let answer = match r.below(8) {
-                0 => finish_both(&tables.0[i].0, tables.0[i].1, r.below(span) as u32).map(|_| 0),
+                0 => finish_both(&tables.all[i].0, tables.all[i].1, r.below(span) as u32).map(|_| 0),
                 1 | 2 => tables.add(&mut r, i, span),
                 _ => tables.merge(i, (i + 1 + r.below(2) as usize) % 3),
             };
             most = most.max(tables.look());
             seen[answer.err().filter(|e| *e < 13).unwrap_or(0) as usize] += 1;
         }
+        mixed = [0, 1].map(|kind| mixed[kind] + tables.mixed[kind]);
     }
     assert!([0, 8, 9, 10, 11, 12].iter().all(|&i| seen[i] > 20) && seen[7] == 0, "{seen:?}");
-    assert!(most > 2 * 4294967295, "{most}");
+    assert!(most > 2 * 4294967295 && mixed.iter().all(|&n| n > 200), "{most} {mixed:?}");
 }
 
 /// Sound tables that no calls made: from no record to as many as there may be, with counts up to the largest, and what stands after them.
@@ -1028,7 +1412,7 @@ fn interrupted_tables() {
             let (k, v) = columns(&rows);
             if r.chance(3) {
                 let mut second = r.bytes(64 * 12);
-                let g2 = calls::add(&mut second, 0, &k, &v, &mut [1; 64 * 12]).unwrap();
+                let g2 = calls::add(&mut second, 0, &k, &v, Kind::Double, &mut [1; 64 * 12]).unwrap();
                 (g, h) = (merge_both(&mut whole, g, &second, g2).unwrap(), merge_both(&mut parts, h, &second, g2).unwrap());
             } else {
                 g = add_both(&mut whole, g, &k, &v, &mut [1; 64 * 12]).unwrap();
@@ -1069,35 +1453,37 @@ impl Shelf {
     }
 }
 
-/// Lists of adds, merges, finishings, saves and loads, refused ones among them: the totals are those of the rows, where a loaded table has those of the
+/// Lists of adds of both kinds, merges, finishings, saves and loads, refused ones among them: the totals are those of the rows, where a loaded table has those of the
 /// saved one, and tables with the same rows have the same used bytes.
 #[test]
 fn lists_with_saves_and_loads() {
     let mut r = Random(23);
-    let (mut seen, mut most, mut same) = ([0; 20], 0, 0);
+    let (mut seen, mut most, mut same, mut mixed) = ([0; 20], 0, 0, [0; 2]);
     for _ in 0..80 {
         let span = 1 + r.below(12);
         let (mut tables, mut shelf) = (Tables::random(&mut r), Shelf::default());
         for _ in 0..200 {
             let i = r.below(3) as usize;
             let answer = match r.below(16) {
-                0 => finish_both(&tables.0[i].0, tables.0[i].1, r.below(span) as u32).map(|_| 0),
+                0 => finish_both(&tables.all[i].0, tables.all[i].1, r.below(span) as u32).map(|_| 0),
                 1 | 2 => tables.add(&mut r, i, span),
-                3 | 4 => shelf.save(&mut r, &tables.0[i]),
-                5 => shelf.load(&mut r, &mut tables.0[i]),
+                3 | 4 => shelf.save(&mut r, &tables.all[i]),
+                // what kinds a table has had is not followed through a file
+                5 => shelf.load(&mut r, &mut tables.all[i]).inspect(|_| tables.kinds[i] = [false; 2]),
                 _ => tables.merge(i, (i + 1 + r.below(2) as usize) % 3),
             };
             most = most.max(tables.look());
             seen[answer.err().filter(|e| !(13..16).contains(e)).unwrap_or(0) as usize] += 1;
-            let (a, b) = (&tables.0[i], &tables.0[(i + 1) % 3]);
+            let (a, b) = (&tables.all[i], &tables.all[(i + 1) % 3]);
             if a.2 == b.2 {
                 assert!(a.1 == b.1 && a.0[..64 * a.1 as usize] == b.0[..64 * b.1 as usize]);
                 same += (a.1 > 0) as u32;
             }
         }
+        mixed = [0, 1].map(|kind| mixed[kind] + tables.mixed[kind]);
     }
     assert!([0, 2, 8, 9, 10, 11, 12, 16].iter().all(|&i| seen[i] > 20) && seen[7] == 0, "{seen:?}");
-    assert!(most > 2 * 4294967295 && same > 100, "{most} {same}");
+    assert!(most > 2 * 4294967295 && same > 100 && mixed.iter().all(|&n| n > 200), "{most} {same} {mixed:?}");
 }
 
 /// The distance of demand 3: the kept value lies within n x largest x 2^-80 of the exact sum.
@@ -1832,17 +2218,25 @@ fn reports() {
     // lines of sections by the sign of their sum, 2 for none, and their last word, which is the side or the refusal's number; then totals by the number
     // of sections, and refused files and adds
     let mut seen: BTreeMap<(u64, String), u32> = BTreeMap::new();
-    for _ in 0..1500 {
+    for _ in 0..2000 {
         let n = if r.chance(30) { 0 } else { r.below(90) } as usize;
         let span = [1, 5, 64, 70, 1 << 32][r.below(5) as usize];
         let key = |r: &mut Random| if r.chance(9) { u32::MAX } else { r.below(span) as u32 };
-        let rows: Vec<(u32, u64)> = r.rows(n).into_iter().map(|b| (key(&mut r), b)).collect();
-        let (k, mut v) = columns(&rows);
+        let short = r.chance(3);
+        let (k, mut v) = if short {
+            short_columns(&r.shorts(n).into_iter().map(|b| (key(&mut r), b)).collect::<Vec<_>>())
+        } else {
+            columns(&r.rows(n).into_iter().map(|b| (key(&mut r), b)).collect::<Vec<_>>())
+        };
         if r.chance(10) && n > 0 {
-            v[8 * n - 2..].copy_from_slice(&[0xF0, 0xFF]);
+            let end = v.len();
+            v[end - 2..].copy_from_slice(&[0xF0, 0xFF]);
         }
         let (a, first) = (r.below(9) as usize, r.chance(2));
         let mut f = file(&r.bytes(a), &k, &[], &v, &[], first);
+        if short {
+            f = with_short_mark(f);
+        }
         if r.chance(10) {
             let at = f.len() - 1 - r.below(16) as usize;
             f[at] ^= 1;
@@ -1900,7 +2294,7 @@ fn samples() {
             None => assert!(!expected.contains("refused")),
         }
     }
-    assert!(files >= 16);
+    assert!(files >= 31);
 }
 
 /// Each saved table of samples/: its name tells the refusal, the patch file whose rows it has, or the table that an older version saved. A file of one kind is none of the other.
@@ -1931,9 +2325,9 @@ fn saved_samples() {
         }
         let patch = std::fs::read(path.with_extension("patch")).unwrap();
         assert_eq!(load_both(&patch, &mut table), Err(3), "{name}");
-        let (n, k, v) = model::read(&patch).unwrap();
+        let (n, k, v, width) = model::read(&patch).unwrap();
         let mut added = r.bytes(4096);
-        assert_eq!(add_both(&mut added, 0, &patch[k..k + 4 * n], &patch[v..v + 8 * n], &mut [1; 4096]), Ok(g));
+        assert_eq!(add_both_of(&mut added, 0, &patch[k..k + 4 * n], &patch[v..v + width * n], width as u64, &mut [1; 4096]), Ok(g));
         assert_eq!(saved(&mut r, &added, g), data, "{name}");
     }
     assert!(files[0] >= 6 && files[1] >= 6 && older >= 1, "{files:?} {older}");
@@ -1945,12 +2339,13 @@ fn made_files() {
     use std::io::Write;
     use std::process::{Command, Stdio};
     let tool = concat!(env!("CARGO_MANIFEST_DIR"), "/../../tools/mkpatch");
-    let make = |text: &str| {
-        let mut child = Command::new("python3").arg(tool).stdin(Stdio::piped()).stdout(Stdio::piped()).stderr(Stdio::null()).spawn().unwrap();
+    let make_with = |words: &[&str], text: &str| {
+        let mut child = Command::new("python3").arg(tool).args(words).stdin(Stdio::piped()).stdout(Stdio::piped()).stderr(Stdio::null()).spawn().unwrap();
         child.stdin.take().unwrap().write_all(text.as_bytes()).unwrap();
         let out = child.wait_with_output().unwrap();
         (out.status.success(), out.stdout)
     };
+    let make = |text: &str| make_with(&[], text);
     let (good, data) = make("# two sections\n1 1.0\n2 0.125\n\n1 0.5\n");
     assert!(good && read_both(&data) == Ok(3) && rewritten(&data) == data);
     assert_eq!(report_both(&data, 4096), "section rows bits hundredths side\n1 2 3FF8000000000000 150 0\n2 1 3FC0000000000000 13 0\ntotal 2 3\n");
@@ -1959,4 +2354,14 @@ fn made_files() {
     assert!(good && read_both(&data) == Ok(5460) && rewritten(&data) == data);
     assert!(report_both(&data, 4096).ends_with("\ntotal 64 5460\n"));
     assert!(make("").0 && !make(&(most + "1 1\n")).0 && !make("1 inf\n").0 && !make("4294967296 1\n").0 && !make("x\n").0);
+    // of short floats: the report is that of the same text without the word
+    let text = "# two sections\n1 1.0\n2 0.125\n\n1 -0.5\n3 1.401298464324817e-45\n3 -0\n";
+    let (good, data) = make_with(&["--short", "--values-first", "--notes", "x"], text);
+    assert!(good && read_both(&data) == Ok(5) && calls::read(&data).unwrap().kind == Kind::Single);
+    assert_eq!(report_both(&data, 4096), report_both(&make(text).1, 4096));
+    let most: String = (0..8190).map(|i| format!("{} {}.25\n", i % 64, i)).collect();
+    let (good, data) = make_with(&["--short"], &most);
+    assert!(good && data.len() == 65536 && read_both(&data) == Ok(8190));
+    assert!(report_both(&data, 4096).ends_with("\ntotal 64 8190\n"));
+    assert!(!make_with(&["--short"], &(most + "1 1\n")).0 && !make_with(&["--short"], "1 0.1\n").0 && !make_with(&["--short"], "1 1e39\n").0);
 }

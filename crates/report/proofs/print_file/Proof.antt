@@ -4,8 +4,7 @@ use mathlib.Core.Path.{_≡_, sym, ap, _∙_}
 use mathlib.Core.List.{List, _++_}
 use native.Mathlib.Omega.{arith}
 use Rattle.refusal.specs.Number.{numberOf}
-use Rattle.columns.specs.declared.Kind.the-variants.{Double}
-use Rattle.patch.specs.File.{readOutcome}
+use Rattle.patch.specs.File.{fileOutcome}
 use Rattle.patch.specs.Answer.{readAnswer}
 use Rattle.numerals.specs.Steps.{Continued}
 use Rattle.numerals.proofs.Texts.{longer}
@@ -21,15 +20,16 @@ module _ (d : tie.After-read) where
   abbrev file : List ℕ
   file = d .before .before .before .args .file .now
 
-  outcome-here : readOutcome Double file ≡ readAnswer (d .read .result)
+  outcome-here : fileOutcome file ≡ readAnswer (d .read .result)
   outcome-here = sym (d .read .ensures)
 
 returns : tie.Need-returns
 returns c =
-    let e = c .before .before .before .before .before .before in
+    let v = c .before .before .before in
+    let e = v .before .before .before .before in
     let d = e .before .before in
-    let n = e .enum-told .given in
-    rw (file-accepted (file d) (n .0 .0) (outcome-here d ∙ ap readAnswer (n .1)), ← c .before .before .before .before .keys .ensures .0, ← c .before .before .before .values .ensures .0) (c .before .before .print-columns .ensures)
+    let r = e .kind .given in
+    rw (file-accepted (file d) _ (outcome-here d ∙ ap readAnswer (r .1)), ← v .before .keys .ensures .0, ← v .values .ensures .0) (c .before .before .print-columns .ensures)
 
 returns-2 : tie.Need-returns-2
 returns-2 c =

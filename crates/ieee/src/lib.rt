@@ -1,0 +1,1 @@
+// The formats of IEEE 754: laws only, no code.
