@@ -1,4 +1,6 @@
 // A record, or a row, brought into a table: combined with the record of its key, or inserted in the gap.
+#![tactic(auto)]
+
 ghost use Rattle.std.specs.Prelude.{◌≡◌, true, false, ◌+◌, ◌*◌, ◌≤◌, ◌<◌, T, length};
 ghost use Rattle.lists.specs.Lists.{any_of};
 ghost use Rattle.columns.specs.Columns.{column_row_count, columns_fit, row_at};
@@ -28,7 +30,7 @@ pub fn locate(t: &[u8], g: usize, hint: usize, key: u32) -> Place
 
 // A table that took a section in: its group count, and the place that the next row tries first. A wrong place would cost time alone, so that
 // nothing is promised of it.
-#[derive(Drop)]
+#[derive(Clone, Copy)]
 pub enum Absorbed {
     Into { groups: usize, last: usize },
     NoRoom,

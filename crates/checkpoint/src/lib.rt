@@ -1,4 +1,6 @@
 // A table kept in a file: its records and a trailer, saved from a lent table and loaded into one.
+#![tactic(auto)]
+
 ghost use Rattle.std.specs.Prelude.{◌≡◌, ◌≤◌, length};
 ghost use Rattle.output.specs.Output.{output_answer};
 ghost use Rattle.table.specs.Answer.{table_answer};

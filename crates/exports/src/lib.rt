@@ -1,5 +1,7 @@
 // The public calls for other languages. A call returns a number of at least 0, or minus the refusal's number; further numbers go
 // out through references, and are 0 when the call is refused.
+#![tactic(auto)]
+
 ghost use Rattle.std.specs.Prelude.{◌≡◌, ℕ, ◌≤◌, ◌<◌, ◌^◌, pos, neg_ℤ, length};
 ghost use Rattle.refusal.specs.Number.{number_of};
 ghost use Rattle.refusal.specs.Outcome.{accepted};
@@ -75,7 +77,7 @@ fn groups_or_minus(a: TableAnswer) -> i64
 }
 
 // The kind of value that has some width, if there is one.
-#[derive(Drop)]
+#[derive(Clone, Copy)]
 enum WidthKind {
     Of(Kind),
     Unknown,

@@ -9,7 +9,7 @@ use native.Mathlib.Omega.{arith}
 use lib.Dec.{T, lit≤}
 use lib.Pow.{pow_pos, pow_mono}
 use lib.Ieee.{Float, nan, inf, fin, binary64, size, round, to_bits}
-use lib.Ieee.Digits.{size_lt, size-le}
+use lib.Ieee.Digits.{size-lt, size-le}
 use lib.Ieee.Exact.{HasValue}
 use lib.Ieee.Scale.{finite}
 use lib.Ieee.Nearest.{closest, closest_mono}
@@ -21,7 +21,7 @@ use Rattle.finish.specs.Sum.{limit}
 
 size_at_limit : (n : ℕ) → limit ≤ n → 2045 ≤ dropped_digits n
 size_at_limit n h =
-    let a : 2097 < size n = lt_of_not-le (λ (g : size n ≤ 2097). not-le_of_lt (lt_of_lt_of_le (size_lt n) (pow_mono g)) (le_trans (lit≤ tt) h)) in
+    let a : 2097 < size n = lt_of_not-le (λ (g : size n ≤ 2097). not-le_of_lt (lt_of_lt_of_le (size-lt n) (pow_mono g)) (le_trans (lit≤ tt) h)) in
     omega arith
 
 size_below_limit : (n : ℕ) → n < limit → dropped_digits n ≤ 2045

@@ -1,4 +1,6 @@
 // Finishing a section: the double nearest to its kept value, and the mill figure of that double.
+#![tactic(auto)]
+
 ghost use Rattle.std.specs.Prelude.{◌≡◌, cond, ◌+◌, ◌-◌, ◌*◌, ◌%◌, ◌^◌, ◌<◌, ◌≤◌, T, nat_abs};
 ghost use Rattle.std.proofs.Math.Option.{some};
 ghost use Rattle.std.specs.Float.Ieee.Scale.{finite};
@@ -22,7 +24,7 @@ use record::{Place, Record};
 use refusal::Refusal;
 
 // A section's sum: a finite double with its side of the kept value, absent, or too large; or the table is not sound.
-#[derive(Drop)]
+#[derive(Clone, Copy)]
 pub enum SectionSum {
     Finite(f64, Side),
     Absent,
@@ -31,14 +33,14 @@ pub enum SectionSum {
 }
 
 // A section's mill figure, or why there is none.
-#[derive(Drop)]
+#[derive(Clone, Copy)]
 pub enum FigureAnswer {
     Figure(i32),
     Refused(Refusal),
 }
 
 // A section's number, its row count, its sum, its mill figure and the sum's side of the kept value.
-#[derive(Drop)]
+#[derive(Clone, Copy)]
 pub struct FinishedLine {
     pub key: u32,
     pub count: u32,
@@ -48,14 +50,14 @@ pub struct FinishedLine {
 }
 
 // A section's finished line, or why there is none.
-#[derive(Drop)]
+#[derive(Clone, Copy)]
 pub enum LineAnswer {
     Line(FinishedLine),
     Refused(Refusal),
 }
 
 // Whether a section's kept value is known to be the exact sum of its rows, or why the question is refused.
-#[derive(Drop)]
+#[derive(Clone, Copy)]
 pub enum ExactnessAnswer {
     Exact,
     NotKnown,
@@ -244,7 +246,7 @@ fn line_by(key: u32, count: u32, answer: SectionSum) -> LineAnswer
 }
 
 // The record of a section in a sound table.
-#[derive(Drop)]
+#[derive(Clone, Copy)]
 enum Lookup {
     Found(Record),
     Missing,

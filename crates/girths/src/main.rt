@@ -1,4 +1,6 @@
 // Reads one patch file from standard input and writes its report to standard output. A read or a write that fails is told on standard error.
+#![tactic(auto)]
+
 ghost use Rattle.std.specs.Prelude.{◌-◌, ◌≤◌, ◌≡◌, length, take};
 ghost use Rattle.girths.specs.Input.{GaveAtMost};
 
@@ -7,7 +9,7 @@ use output::OutputAnswer;
 use report::LONGEST_TEXT;
 
 // How many bytes were read, or that a read failed.
-#[derive(Drop)]
+#[derive(Clone, Copy)]
 enum Received {
     Length(usize),
     Failed,

@@ -5,13 +5,13 @@ use Prim.Native.Nat.{ℕ, suc, ◌+◌, ◌-◌, ◌*◌, ◌/◌, ◌^◌, ◌�
 use native.Mathlib.Nat.{le_antisymm, lt_of_lt_of_le, lt_of_not-le, not-le_of_lt, mul-div_cancel, mul_right_comm, mul_assoc, eq_of_mul-eq-mul_right}
 use lib.Pow.{pow_mono}
 use lib.Ieee.{Float, nan, inf, fin, Format, prec, low, hid, top, up, down, size, to_bits}
-use lib.Ieee.Digits.{size_lt, size-le}
+use lib.Ieee.Digits.{size-lt, size-le}
 use lib.Ieee.Fits.{down_pos}
 use lib.Ieee.Exact.{HasValue}
 
 -- a number from 2^a to below 2^(a+1) has a + 1 digits
 pub size_is : (n a : ℕ) → 2 ^ a ≤ n → n < 2 ^ suc a → size n ≡ suc a
-size_is n a l h = le_antisymm (size-le n (suc a) h) (lt_of_not-le (λ (g : size n ≤ a). not-le_of_lt (lt_of_lt_of_le (size_lt n) (pow_mono g)) l))
+size_is n a l h = le_antisymm (size-le n (suc a) h) (lt_of_not-le (λ (g : size n ≤ a). not-le_of_lt (lt_of_lt_of_le (size-lt n) (pow_mono g)) l))
 
 -- the bits of a float whose size is a of the format's smallest values: the sign, how many of a's digits do not fit, and those that do
 abbrev pub bits_of_units : Format → Bool → ℕ → ℕ

@@ -1,4 +1,6 @@
 // Level arithmetic.
+#![tactic(auto)]
+
 ghost use Rattle.std.specs.Prelude.{◌≡◌, [], ◌+◌, ◌-◌, ◌*◌, ◌/◌, ◌%◌, ◌^◌, ◌<◌, ◌≤◌, length, ◌-ℤ◌, nat_abs, ◌+ℤ◌};
 ghost use Rattle.std.specs.Float.Ieee.Nearest.{closest};
 ghost use Rattle.lists.specs.Lists.{exceptions};
@@ -196,7 +198,7 @@ fn nearest(x: u64, d: u64) -> u64
 }
 
 // A size cut at the unit 2^d: its number of units, what is left, and whether the units came to more than the size.
-#[derive(Drop)]
+#[derive(Clone, Copy)]
 struct Cut {
     units: u64,
     rest: u64,
@@ -225,7 +227,7 @@ fn cut_at(x: u64, d: u64) -> Cut
 }
 
 // What stands one and two levels below a cut, of a rest in units of 2^d.
-#[derive(Drop)]
+#[derive(Clone, Copy)]
 struct Lower {
     middle: u64,
     rounded_up: bool,
@@ -268,7 +270,7 @@ pub fn with_sign(sign: bool, magnitude: u64) -> i64
 }
 
 // A row's top, and what it gives to its top and to the two levels below; a level below 0 receives 0.
-#[derive(Drop)]
+#[derive(Clone, Copy)]
 pub struct Contributions {
     pub top: u32,
     pub high: i64,
@@ -295,7 +297,7 @@ pub fn contributions_of(bits: u64) -> Contributions
 }
 
 // A total as it is kept: carry × 2^50 + residue.
-#[derive(Drop)]
+#[derive(Clone, Copy)]
 pub struct SplitTotal {
     pub residue: u64,
     pub carry: i64,

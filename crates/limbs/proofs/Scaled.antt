@@ -11,7 +11,7 @@ use mir.Syntax.{w64}
 use mir.Val.{Fits}
 use lib.Pow.{pow-add, pow_pos, pow_mono, shl_lt}
 use lib.Ieee.{size}
-use lib.Ieee.Digits.{size_lt, size_reaches}
+use lib.Ieee.Digits.{size-lt, size_reaches}
 use lib.Ieee.Positive.{first_pos}
 use Rattle.integers.proofs.Naturals.{pow-sum}
 use Rattle.limbs.specs.Limbs.{value_of, ShiftedLeft}
@@ -33,13 +33,13 @@ module _ (n w a b : ℕ) (e : n * 2 ^ b ≡ w * 2 ^ a) (lo : 2 ^ 159 ≤ w) (hi 
   scaled_lt = lt_of_le_of_lt (le_of_eq e) (shl_lt 160 a hi)
 
   size_low : 159 + a < size n + b
-  size_low = lt_of_not-le (λ (g : size n + b ≤ 159 + a). not-le_of_lt (lt_of_lt_of_le (shl_lt (size n) b (size_lt n)) (pow_mono g)) scaled_ge)
+  size_low = lt_of_not-le (λ (g : size n + b ≤ 159 + a). not-le_of_lt (lt_of_lt_of_le (shl_lt (size n) b (size-lt n)) (pow_mono g)) scaled_ge)
 
   n_pos : 0 < n
   n_pos = first_pos n (2 ^ b) (lt_of_lt_of_le (pow_pos (159 + a)) scaled_ge)
 
   pub size_pos : 0 < size n
-  size_pos = lt_of_not-le (λ (g : size n ≤ 0). not-le_of_lt (lt_of_lt_of_le (size_lt n) (pow_mono {j = 0} g)) n_pos)
+  size_pos = lt_of_not-le (λ (g : size n ≤ 0). not-le_of_lt (lt_of_lt_of_le (size-lt n) (pow_mono {j = 0} g)) n_pos)
 
   size_high : size n + b ≤ 160 + a
   size_high =

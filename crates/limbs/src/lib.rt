@@ -1,4 +1,6 @@
 // Numbers of 160 binary digits in four limbs of 40, the lowest first: distance, shift, and the one rounding to a double's bits.
+#![tactic(auto)]
+
 ghost use Rattle.std.specs.Prelude.{◌≡◌, cond, eqb, pos, get_or};
 ghost use Prim.Native.Nat.{◌+◌, ◌-◌, ◌*◌, ◌/◌, ◌%◌, ◌^◌, ◌<◌, ◌≤◌, compare};
 ghost use Rattle.limbs.specs.Limbs.{value_of, Reduced, Carried, DifferenceWithBias, without_bias, SignedDifference, ShiftedLeft};
@@ -7,7 +9,7 @@ ghost use Rattle.limbs.specs.Packed.{leading_digits, packed, units_of, most_scal
 ghost use Rattle.limbs.specs.Side.{side_of, packed_side, rounded_side};
 
 // Which side of a value the number is on that it was rounded to: the number is less than it, equal to it or greater.
-#[derive(Drop)]
+#[derive(Clone, Copy)]
 pub enum Side {
     Less,
     Equal,
@@ -15,7 +17,7 @@ pub enum Side {
 }
 
 // What a size was rounded to, a number or a double's bits without the sign, and its side of the size.
-#[derive(Drop)]
+#[derive(Clone, Copy)]
 pub struct Rounding {
     pub unsigned: u64,
     pub side: Side,
@@ -77,7 +79,7 @@ fn without_bias(a: [u64; 4]) -> [u64; 4]
 }
 
 // How far two numbers are apart, and whether the second is the larger.
-#[derive(Drop)]
+#[derive(Clone, Copy)]
 pub struct SignMagnitude {
     pub limbs: [u64; 4],
     pub negative: bool,
@@ -103,7 +105,7 @@ pub fn signed_difference(p: [u64; 4], q: [u64; 4]) -> SignMagnitude
 }
 
 // A number shifted left, and by how many digits.
-#[derive(Drop)]
+#[derive(Clone, Copy)]
 struct Shifted {
     limbs: [u64; 4],
     by: u64,

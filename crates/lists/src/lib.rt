@@ -1,1 +1,2 @@
 // Lists and truth values: definitions and laws only, no code.
+#![tactic(auto)]

@@ -1,4 +1,6 @@
 // Merging one table into another, in place and without a work buffer.
+#![tactic(auto)]
+
 ghost use Rattle.std.specs.Prelude.{◌≡◌, false, ◌+◌, ◌*◌, ◌<◌, ◌≤◌, T, length};
 ghost use Rattle.record.specs.Sound.{sound};
 ghost use Rattle.record.specs.Section.{record_of, written};
@@ -12,7 +14,7 @@ use refusal::Refusal;
 use table::TableAnswer;
 
 // How many records of two tables are left, of each.
-#[derive(Drop)]
+#[derive(Clone, Copy)]
 pub struct Ends {
     pub i: usize,
     pub j: usize,
@@ -79,7 +81,7 @@ fn last_record(first: &[u8], i: usize, second: &[u8], j: usize, e: Ends) -> Reco
 }
 
 // How many sections two tables have together, and whether one of them has more rows than its count can say.
-#[derive(Drop)]
+#[derive(Clone, Copy)]
 pub struct Union {
     pub groups: usize,
     pub overflow: bool,

@@ -1,4 +1,6 @@
 // Numerals, each with the byte that ends it, and other bytes, put at the end of a text in a lent buffer.
+#![tactic(auto)]
+
 ghost use Rattle.std.specs.Prelude.{◌≡◌, ◌+◌, ◌≤◌, ◌<◌, [], ◌∷◌, ◌++◌, length};
 ghost use Rattle.std.proofs.lemmas.List.Edits.{sets};
 ghost use Rattle.numerals.specs.Numerals.{digit, digits, decimal, integer, hexadecimal};

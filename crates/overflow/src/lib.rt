@@ -1,4 +1,6 @@
 // Whether an add would make a row count overflow (11), seen before any row is placed.
+#![tactic(auto)]
+
 ghost use Rattle.std.specs.Prelude.{◌≡◌, List, ℕ, ◌*◌, ◌≤◌, T, length};
 ghost use Rattle.lists.specs.Lists.{any_of};
 ghost use Rattle.columns.specs.declared.Kind.{Kind};

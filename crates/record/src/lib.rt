@@ -1,4 +1,6 @@
 // The 64-byte record of a section: read, written and looked up in a lent buffer.
+#![tactic(auto)]
+
 ghost use Rattle.std.specs.Prelude.{◌≡◌, cond, ◌+◌, ◌*◌, ◌≤◌, ◌∷◌, ◌++◌, length, take, drop, T, ltb};
 ghost use Rattle.std.proofs.lemmas.List.Edits.{sets};
 ghost use Rattle.record.specs.Layout.{total_at, record_at, encode_total, encode, decode, records};
@@ -6,7 +8,7 @@ ghost use Rattle.record.specs.Keys.{record_keys, rising, place};
 
 use level::SplitTotal;
 
-#[derive(Drop)]
+#[derive(Clone, Copy)]
 pub struct Record {
     pub key: u32,
     pub count: u32,
@@ -68,7 +70,7 @@ pub fn put(t: &mut [u8], i: usize, r: Record)
 }
 
 // Where a key stands among the records, or how many stand before the place where it would.
-#[derive(Drop)]
+#[derive(Clone, Copy)]
 pub enum Place {
     Index(usize),
     Gap(usize),

@@ -1,9 +1,11 @@
 // The grounds on which a call is refused, and their numbers.
+#![tactic(auto)]
+
 ghost use Rattle.std.specs.Prelude.{◌≡◌};
 ghost use Rattle.refusal.specs.Number.{number_of};
 
 // Document 01's table of refusals, in its order, and the cards' further lines.
-#[derive(Drop)]
+#[derive(Clone, Copy)]
 pub enum Refusal {
     FileTooLong,
     FileTooShort,

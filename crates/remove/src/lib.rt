@@ -1,4 +1,6 @@
 // Taking the rows of two columns back out of a table: all of them or none. The patch's own table is made in the work buffer; the table is written only when the removal is known to be accepted.
+#![tactic(auto)]
+
 ghost use Rattle.std.specs.Prelude.{◌≡◌, true, false, ◌+◌, ◌*◌, ◌≤◌, ◌<◌, T, length};
 ghost use Rattle.lists.specs.Lists.{any_of};
 ghost use Rattle.level.specs.Level.{below};
@@ -54,7 +56,7 @@ fn record_without(r: Record, p: Record) -> Record
 
 // How the patch's record i stands to the table: the table has fewer rows of its section, or at least as many, perhaps at a lower top. `hint` is the place that the patch's next section tries
 // first; a wrong place would cost time alone, so that nothing is promised of it.
-#[derive(Drop)]
+#[derive(Clone, Copy)]
 enum Standing {
     Short,
     Enough { too_low: bool, hint: usize },
@@ -106,7 +108,7 @@ fn compare_sections(table: &[u8], g: usize, patch: &[u8], n: usize) -> ColumnChe
 }
 
 // A held record without what the patch has for its section, and the place that the next section tries first, of which nothing is promised.
-#[derive(Drop)]
+#[derive(Clone, Copy)]
 struct Reduction {
     pub remaining: Record,
     pub hint: usize,

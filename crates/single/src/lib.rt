@@ -1,4 +1,6 @@
 // A short float (IEEE 754 binary32) as the double of equal value.
+#![tactic(auto)]
+
 ghost use Rattle.std.specs.Prelude.{◌≡◌, ◌+◌, ◌*◌, ◌^◌, ◌<◌};
 ghost use Rattle.single.specs.Single.{single_field, single_fraction, widened};
 ghost use Rattle.single.specs.Steps.{unsigned_bits};

@@ -1,4 +1,6 @@
 // Whether the bytes of a buffer hold a sound table.
+#![tactic(auto)]
+
 ghost use Rattle.std.specs.Prelude.{◌≡◌, ◌&&◌, ◌||◌, ◌+◌, ◌*◌, ◌≤◌, length, leb};
 ghost use Rattle.level.specs.Level.{level_bound};
 ghost use Rattle.level.specs.Carry.{carry_base};

@@ -1,4 +1,6 @@
 // What the calls on tables share: the tests of two columns, and sections combined by value.
+#![tactic(auto)]
+
 ghost use Rattle.std.specs.Prelude.{◌≡◌, ◌+◌, ◌≤◌, ◌<◌, max, min, T, pos};
 ghost use Rattle.level.specs.Level.{below};
 ghost use Rattle.level.specs.Carry.{split_of};
@@ -18,14 +20,14 @@ use refusal::Refusal;
 pub const MOST_ROWS: u64 = 4294967295;
 
 // What an add, a removal, a merge or a load answers: the table's new group count, or why the call is refused.
-#[derive(Drop)]
+#[derive(Clone, Copy)]
 pub enum TableAnswer {
     Groups(usize),
     Refused(Refusal),
 }
 
 // Whether two columns can be brought to a table or taken out of it, or why not.
-#[derive(Drop)]
+#[derive(Clone, Copy)]
 pub enum ColumnCheck {
     Good,
     Refused(Refusal),

@@ -1,4 +1,6 @@
 // How many sections and rows a table has.
+#![tactic(auto)]
+
 ghost use Rattle.std.specs.Prelude.{◌≡◌, T};
 ghost use Rattle.record.specs.Section.{sections};
 ghost use Rattle.record.specs.Sound.{sound};
@@ -8,14 +10,14 @@ ghost use Rattle.totals.specs.Answer.{totals_answer};
 use refusal::Refusal;
 
 // The numbers of a table as a whole: of its sections, and of their rows.
-#[derive(Drop)]
+#[derive(Clone, Copy)]
 pub struct TableTotals {
     pub groups: u64,
     pub count: u64,
 }
 
 // A table's totals, or why there are none.
-#[derive(Drop)]
+#[derive(Clone, Copy)]
 pub enum TotalsAnswer {
     Totals(TableTotals),
     Refused(Refusal),

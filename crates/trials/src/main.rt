@@ -1,4 +1,6 @@
 // The test program: random row sets through the library. tests/exact.py makes the same sets and computes what this program must write.
+#![tactic(auto)]
+
 ghost use Rattle.std.specs.Prelude.{◌<◌};
 
 const SIGN: u64 = 0x8000000000000000;

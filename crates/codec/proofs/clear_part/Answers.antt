@@ -7,8 +7,7 @@ use borrow.Author.Rules.{rules}
 use borrow.Rule.Slice.PartMut.{mid_of, post_of, put_mid}
 use lib.ListN.{length, take, drop, replicate, length-drop}
 use lib.Seq.{length-take-le, drop-drop}
-use Rattle.codec.proofs.clear_part.Statement.{statement}
-use Rattle.codec.proofs.clear_part.Tie as tie
+use Rattle.codec.proofs.clear_part.Goals as goal
 
 cleared : (a e : ℕ) (xs ys : List ℕ) → a ≤ e → e ≤ length xs → ys ≡ replicate (length (mid_of a (e - a) xs)) 0
     → put_mid a (e - a) xs ys ≡ take a xs ++ (replicate (e - a) 0 ++ drop e xs)
@@ -18,10 +17,5 @@ cleared a e xs ys h k q =
     let d : drop (e - a) (drop a xs) ≡ drop e xs = rw drop-drop (ap (λ (m : ℕ). drop m xs) whole) in
     ap₂ (λ (x y : List ℕ). take a xs ++ (x ++ y)) (q ∙ ap (λ (m : ℕ). replicate m 0) n) d
 
-returns : tie.Need-returns
-returns c = let s = c.before.before.before.before.before in cleared s.args.from s.args.to s.args.s.now c.before.before.clear.new.0 s.requires.0 s.requires.1 c.before.before.clear.ensures
-
-pub clear-part-spec : {M : Type 1} → statement M
-clear-part-spec =
-    tie.close
-    (tie.spec (λ c. search rules) (λ c. search rules) (λ c. search rules) (λ c κs. search rules) (λ c. search rules) returns)
+pub returns : goal.returns
+returns c = cleared c.args.from c.args.to c.args.s.now c.clear.new.s c.requires.0 c.requires.1 c.clear.ensures
