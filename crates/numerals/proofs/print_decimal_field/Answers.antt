@@ -1,0 +1,6 @@
+use Rattle.numerals.proofs.Texts.{then}
+use borrow.Author.Rules.{rules}
+use Rattle.numerals.proofs.print_decimal_field.Goals as goal
+
+pub returns : goal.returns
+returns c = then c.print_decimal-next.ensures c.print_byte.ensures
