@@ -15,8 +15,8 @@ use Rattle.record.specs.Keys.{record_keys, rising, count_below, place}
 use Rattle.record.specs.declared.Place.TheVariants.{Index, Gap}
 use Rattle.record.proofs.Laws.{get_d_keys, length-keys}
 use Rattle.record.proofs.Order.{below-le, below-lt, below_ge, place_at, place_gap}
-use Rattle.record.proofs.binary_search.Statement.{statement}
-use Rattle.record.proofs.binary_search.Tie as tie
+use Rattle.record.proofs.binary_search.Goals as goal
+use Rattle.record.proofs.binary_search.Goals.{After-is_below, Start}
 
 -- what the key at a record says of the place; v is that key as it was read
 module _ (s : List ℕ) (g key : ℕ) (pre : (g * 64 ≤ length s) × T (rising (record_keys (records s g)))) (i v : ℕ) (e : v ≡ number_at 4 s (i * 64)) where
@@ -49,62 +49,48 @@ chosen h v key b e = by (ltb v key) refl e
     by true q e = inl (ltb-true v key q, rw e (omega arith))
     by false q e = inr (ltb-false v key q, rw e (omega arith))
 
-abbrev invariant-loop : tie.invariant-loop
-invariant-loop t g key lo₀ n₀ lo n = (lo ≤ count_below key (record_keys (records t g))) × (count_below key (record_keys (records t g)) ≤ lo + n) × (lo + n ≤ g)
-
-abbrev decreases-loop : tie.decreases-loop
-decreases-loop t g key lo₀ n₀ lo n = n
-
-loop-holds : tie.Need-loop-init invariant-loop decreases-loop
-loop-holds c =
-    let a = c.before.args in
-    (zero-le, omega (arith, below-le a.key (record_keys (records a.t.now a.g)), length-keys a.t.now a.g), omega arith)
-
 -- where the key in the middle was compared
-module _ (c : tie.After-is-below invariant-loop decreases-loop) where
-  abbrev start : tie.Start invariant-loop decreases-loop
-  start = c.before.before.before.before.before
-
+module _ (c : After-is_below) where
   abbrev half : ℕ
-  half = (c.before.before.before.loop.n + 1) / 2
+  half = (c.loop-n.n + 1) / 2
 
-  chosen-here : ((c.before.u32-at.result < start.args.key) × (half * c.is_below.result ≡ half)) ⊎ ((start.args.key ≤ c.before.u32-at.result) × (half * c.is_below.result ≡ 0))
-  chosen-here = chosen half c.before.u32-at.result start.args.key c.is_below.result c.is_below.ensures
+  chosen-here : ((c.u32_at.result < c.args.key) × (half * c.is_below.result ≡ half)) ⊎ ((c.args.key ≤ c.u32_at.result) × (half * c.is_below.result ≡ 0))
+  chosen-here = chosen half c.u32_at.result c.args.key c.is_below.result c.is_below.ensures
 
-step_fits : (c : tie.After-is-below invariant-loop decreases-loop) → half c * c.is_below.result ≤ half c
+step_fits : (c : After-is_below) → half c * c.is_below.result ≤ half c
 step_fits c = ⊎_elim (λ w. omega arith) (λ w. omega arith) (chosen-here c)
 
-loop-again : tie.Need-loop-preserved invariant-loop decreases-loop
-loop-again c =
-    let a = start c in
-    let l = c.before.before.before.loop in
-    let m = l.lo + half c - 1 in
-    let u = c.before.u32-at in
+pub loop-n-init : goal.loop-n-init
+loop-n-init c =
+    let a = c.args in
+    (zero-le, omega (arith, below-le a.key (record_keys (records a.t.now a.g)), length-keys a.t.now a.g), omega arith)
+
+pub loop-n-preserved : goal.loop-n-preserved
+loop-n-preserved c =
+    let l = c.loop-n in
+    let m = l.lo + half (goal.at.loop-n-preserved c).After-is_below - 1 in
+    let u = c.u32_at in
     ⊎_elim
-    (λ w. omega (arith, count_past a.args.t.now a.args.g a.args.key a.pre m u.result u.ensures (omega arith) w.0))
-    (λ w. omega (arith, count-within a.args.t.now a.args.g a.args.key a.pre m u.result u.ensures (omega arith) w.0))
-    (chosen-here c)
+    (λ w. omega (arith, count_past c.args.t.now c.args.g c.args.key c.requires m u.result u.ensures (omega arith) w.0))
+    (λ w. omega (arith, count-within c.args.t.now c.args.g c.args.key c.requires m u.result u.ensures (omega arith) w.0))
+    (chosen-here (goal.at.loop-n-preserved c).After-is_below)
 
-returns : tie.Need-returns invariant-loop decreases-loop
-returns c =
-    let a = c.before.before.before.before.before.before in
-    let u = c.before.u32-at2 in
-    index-here a.args.t.now a.args.g a.args.key a.requires c.before.before.before.before.loop.lo u.result u.ensures (omega arith) (omega arith) c.if2.true
+pub returns-then-u32_at-key : goal.returns-then-u32_at-key
+returns-then-u32_at-key c =
+    let u = c.u32_at-then-lo-g in
+    index-here c.args.t.now c.args.g c.args.key c.requires c.loop-n.lo u.result u.ensures (omega arith) (omega arith) c.if-u32_at-key.true
 
-returns-2 : tie.Need-returns-2 invariant-loop decreases-loop
-returns-2 c =
-    let a = c.before.before.before.before.before.before in
-    let u = c.before.u32-at2 in
-    gap_here a.args.t.now a.args.g a.args.key a.requires c.before.before.before.before.loop.lo u.result u.ensures (omega arith) (omega arith) c.if2.false
+pub returns-else-u32_at-key : goal.returns-else-u32_at-key
+returns-else-u32_at-key c =
+    let u = c.u32_at-then-lo-g in
+    gap_here c.args.t.now c.args.g c.args.key c.requires c.loop-n.lo u.result u.ensures (omega arith) (omega arith) c.if-u32_at-key.false
 
-returns-3 : tie.Need-returns-3 invariant-loop decreases-loop
-returns-3 c =
-    let a = c.before.before.before.before in
-    past_all a.args.t.now a.args.g a.args.key a.requires.1 c.before.before.loop.lo (omega arith) c.if1.false
+pub returns-else-lo-g : goal.returns-else-lo-g
+returns-else-lo-g c =
+    past_all c.args.t.now c.args.g c.args.key c.requires.1 c.loop-n.lo (omega arith) c.if-lo-g.false
 
-pub binary-search-spec : {M : Type 1} → statement M
-binary-search-spec =
-    tie.close
-    (tie.spec invariant-loop decreases-loop loop-holds (λ c. omega arith) (λ c. omega arith) (λ c. omega arith) (λ c. omega arith) (λ c κs. omega arith)
-    (λ c κs. search rules) (λ c. omega (arith, step_fits c)) (λ c. omega (arith, step_fits c)) (λ c. omega arith) (λ c. omega arith) loop-again (λ c. omega arith) (λ c κs. omega arith) returns
-    returns-2 returns-3)
+pub overflow_mul-lo-in-loop-n : goal.overflow_mul-lo-in-loop-n
+overflow_mul-lo-in-loop-n c = omega (arith, step_fits (goal.at.overflow_mul-lo-in-loop-n c).After-is_below)
+
+pub overflow_add-lo-in-loop-n : goal.overflow_add-lo-in-loop-n
+overflow_add-lo-in-loop-n c = omega (arith, step_fits (goal.at.overflow_add-lo-in-loop-n c).After-is_below)

@@ -5,8 +5,7 @@ use native.Mathlib.Omega.{arith}
 use borrow.Author.Rules.{rules}
 use borrow.Author.Tests.{ltb-true, ltb-false}
 use lib.Dec.{ltb}
-use Rattle.record.proofs.is_below.Statement.{statement}
-use Rattle.record.proofs.is_below.Tie as tie
+use Rattle.record.proofs.is_below.Goals as goal
 
 carry-bit : (x y : ℕ) → x < 2 ^ 32 → y < 2 ^ 32 → (y + 8589934591 - x) / 2 ^ 32 - 1 ≡ cond (ltb x y) 1 0
 carry-bit x y hx hy = by (ltb x y) refl
@@ -15,8 +14,5 @@ carry-bit x y hx hy = by (ltb x y) refl
     by true e = omega (arith, ltb-true x y e)
     by false e = omega (arith, ltb-false x y e)
 
-returns : tie.Need-returns
+pub returns : goal.returns
 returns c = carry-bit c.args.x c.args.y (search rules) (search rules)
-
-pub is-below-spec : {M : Type 1} → statement M
-is-below-spec = tie.close (tie.spec (λ c. search rules) (λ c. search rules) (λ c. search rules) returns)

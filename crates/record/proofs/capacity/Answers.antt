@@ -1,0 +1,4 @@
+use native.Mathlib.Omega.{arith}
+use Rattle.record.proofs.capacity.Goals as goal
+
+
