@@ -16,18 +16,12 @@ use Rattle.record.specs.Keys.{record_keys, rising}
 use Rattle.record.specs.Sound.{sound_record, sound_records}
 use Rattle.record.proofs.Laws.{get_d_records, get_d_keys, length-keys}
 use Rattle.soundness.proofs.Tests.{sound_cons, rising_more, rising_stop, rising_last}
-use Rattle.soundness.proofs.records_sound.Statement.{statement}
-use Rattle.soundness.proofs.records_sound.Tie as tie
+use Rattle.soundness.proofs.records_sound.Goals as goal
+use Rattle.soundness.proofs.records_sound.Goals.{Else-not-ok, Start}
 
 -- the records from i on
 abbrev from : List ℕ → ℕ → ℕ → Bool
 from s g i = rising (drop i (record_keys (records s g))) && sound_records (drop i (records s g))
-
-abbrev invariant-loop : tie.invariant-loop
-invariant-loop t g i₀ i = (i ≤ g) × (from t g i ≡ (rising (record_keys (records t g)) && sound_records (records t g)))
-
-abbrev decreases-loop : tie.decreases-loop
-decreases-loop t g i₀ i = g - i
 
 -- one more record; r is the record as it was read, and ok the answer of its test
 module _ (s : List ℕ) (g i : ℕ) (fits : g * 64 ≤ length s) (h : i < g) {r : Record} (er : r ≡ record_at s (i * 64)) {ok : Bool} (eo : ok ≡ sound_record r) where
@@ -66,69 +60,59 @@ module _ (s : List ℕ) (g i : ℕ) (fits : g * 64 ≤ length s) (h : i < g) {r 
         ap₂ (λ (a b : Bool). a && b) up (more e)
 
 -- where the record at i was found sound
-module _ (e : tie.Else1 invariant-loop decreases-loop) where
-  abbrev start : tie.Start invariant-loop decreases-loop
-  start = e.before.before.before.before.before.before
-
+module _ (e : Else-not-ok) where
   abbrev t : List ℕ
-  t = start.args.t.now
+  t = e.args.t.now
 
   abbrev g : ℕ
-  g = start.args.g
+  g = e.args.g
 
   abbrev i : ℕ
-  i = e.before.before.before.before.loop.i
+  i = e.loop-i.i
 
   abbrev key : ℕ
-  key = e.before.before.get.result.key
+  key = e.get-r.result.key
 
   before-end : i < g
-  before-end = e.before.before.before.loop-test.taken
+  before-end = e.loop-i-test.true
 
   undecided : from t g i ≡ (rising (record_keys (records t g)) && sound_records (records t g))
-  undecided = e.before.before.before.before.loop.inv.1
+  undecided = e.loop-i.invariant.1
 
   -- the next key y is not larger
   falls : i + 1 < g → {y : ℕ} → y ≡ number_at 4 t ((i + 1) * 64) → y ≤ key → false ≡ (rising (record_keys (records t g)) && sound_records (records t g))
-  falls l ey q = sym (fall t g i start.pre before-end e.before.before.get.ensures e.before.record-sound.ensures l ey q) ∙ undecided
+  falls l ey q = sym (fall t g i e.requires before-end e.get-r.ensures e.record_sound-ok.ensures l ey q) ∙ undecided
 
   -- it is larger
   rises : i + 1 < g → {y : ℕ} → y ≡ number_at 4 t ((i + 1) * 64) → key < y → from t g (i + 1) ≡ (rising (record_keys (records t g)) && sound_records (records t g))
-  rises l ey q = sym (rise t g i start.pre before-end e.before.before.get.ensures e.before.record-sound.ensures l ey e.if1.left q) ∙ undecided
+  rises l ey q = sym (rise t g i e.requires before-end e.get-r.ensures e.record_sound-ok.ensures l ey (ap not e.if-not-ok.false) q) ∙ undecided
 
   -- there is none
   last-passes : g ≤ i + 1 → from t g (i + 1) ≡ (rising (record_keys (records t g)) && sound_records (records t g))
-  last-passes l = sym (last t g i start.pre before-end e.before.before.get.ensures e.before.record-sound.ensures e.if1.left l) ∙ undecided
+  last-passes l = sym (last t g i e.requires before-end e.get-r.ensures e.record_sound-ok.ensures (ap not e.if-not-ok.false) l) ∙ undecided
 
-loop-holds : tie.Need-loop-init invariant-loop decreases-loop
-loop-holds c = (zero-le, refl)
+pub loop-i-init : goal.loop-i-init
+loop-i-init c = (zero-le, refl)
 
-returns : tie.Need-returns invariant-loop decreases-loop
-returns c =
-    let a = c.before.before.before.before.before.before in
-    let l = c.before.before.before.before.loop in
-    sym (stop a.args.t.now a.args.g l.i a.requires (omega arith) c.before.before.get.ensures c.before.record-sound.ensures c.if1.true) ∙ l.invariant.1
+pub returns-then-not-ok : goal.returns-then-not-ok
+returns-then-not-ok c =
+    let l = c.loop-i in
+    sym (stop c.args.t.now c.args.g l.i c.requires (omega arith) c.get-r.ensures c.record_sound-ok.ensures (ap not c.if-not-ok.true)) ∙ l.invariant.1
 
-returns-2 : tie.Need-returns-2 invariant-loop decreases-loop
-returns-2 c = falls c.before.before.before.before (omega arith) c.before.before.u32-at.ensures c.if3.true
+pub returns-then-u32_at-r : goal.returns-then-u32_at-r
+returns-then-u32_at-r c = falls (goal.at.returns-then-u32_at-r c).Else-not-ok (omega arith) c.u32_at.ensures c.if-u32_at-r.true
 
-loop-again : tie.Need-loop-preserved invariant-loop decreases-loop
-loop-again c = (omega arith, rises c.before.before.before.before (omega arith) c.before.before.u32-at.ensures c.if3.false)
+pub loop-i-preserved-else-u32_at-r : goal.loop-i-preserved-else-u32_at-r
+loop-i-preserved-else-u32_at-r c = (omega arith, rises (goal.at.loop-i-preserved-else-u32_at-r c).Else-not-ok (omega arith) c.u32_at.ensures c.if-u32_at-r.false)
 
-loop-again-2 : tie.Need-loop-preserved-2 invariant-loop decreases-loop
-loop-again-2 c = (omega arith, last-passes c.before (omega arith))
+pub loop-i-preserved : goal.loop-i-preserved
+loop-i-preserved c = (omega arith, last-passes (goal.at.loop-i-preserved c).Else-not-ok (omega arith))
 
-returns-3 : tie.Need-returns-3 invariant-loop decreases-loop
+pub returns : goal.returns
 unfolding sound_records
-returns-3 c =
-    let a = c.before.before.before.args in
-    let l = c.before.loop in
+returns c =
+    let a = c.args in
+    let l = c.loop-i in
     let rs = records a.t.now a.g in
     sym (ap₂ (λ (x y : Bool). x && y) (rising_last (record_keys rs) l.i (omega (arith, length-keys a.t.now a.g)))
     (ap sound_records (drop_of_length-le rs {i = l.i} (omega (arith, length-cells 64 decode a.g a.t.now))))) ∙ l.invariant.1
-
-pub records-sound-spec : {M : Type 1} → statement M
-records-sound-spec =
-    tie.close
-    (tie.spec invariant-loop decreases-loop loop-holds (λ c κs. omega arith) (λ c κs. search rules) returns (λ c. omega arith) (λ c. omega arith)
-    (λ c κs. omega arith) returns-2 (λ c. omega arith) loop-again (λ c. omega arith) loop-again-2 returns-3)
