@@ -1,6 +1,0 @@
-use native.Mathlib.Omega.{arith}
-use Rattle.table.proofs.larger.Statement.{statement}
-use Rattle.table.proofs.larger.Tie as tie
-
-pub larger-spec : {M : Type 1} → statement M
-larger-spec = tie.close (tie.spec (λ c. omega arith) (λ c. omega arith))

@@ -1,0 +1,4 @@
+use native.Mathlib.Omega.{arith}
+use Rattle.table.proofs.smaller.Goals as goal
+
+
