@@ -1,0 +1,17 @@
+use Rattle.finish.proofs.Outcomes.{found_sound, finishing_by}
+use mathlib.Core.Path.{◌∙◌}
+use Rattle.finish.specs.Finish.{line_of}
+use borrow.Author.Rules.{rules}
+use Rattle.finish.proofs.line.Goals as goal
+
+pub record_line-requires : goal.record_line-requires
+record_line-requires c = found_sound _ _ _ _ c.look_up.ensures _ c.in-Found.is
+
+pub returns-in-Found : goal.returns-in-Found
+returns-in-Found c = c.record_line.ensures ∙ finishing_by _ _ _ _ c.look_up.ensures line_of _ c.in-Found.is
+
+pub returns-in-Missing : goal.returns-in-Missing
+returns-in-Missing c = finishing_by _ _ _ _ c.look_up.ensures line_of _ c.in-Missing.is
+
+pub returns-in-Unsound : goal.returns-in-Unsound
+returns-in-Unsound c = finishing_by _ _ _ _ c.look_up.ensures line_of _ c.in-Unsound.is
