@@ -9,8 +9,7 @@ use lib.Dec.{eqb}
 use lib.ListN.{length}
 use borrow.Author.Rules.{rules}
 use Rattle.checkpoint.specs.Saved.{saved_length, group_count, record_distance, zero_field, wrong_layout}
-use Rattle.checkpoint.proofs.wrong_layout.Statement.{statement}
-use Rattle.checkpoint.proofs.wrong_layout.Tie as tie
+use Rattle.checkpoint.proofs.wrong_layout.Goals as goal
 
 module _ (f : List ℕ) (g : ℕ) (eg : g ≡ group_count f) where
   by_length : (length f ≡ saved_length g → ⊥) → wrong_layout f ≡ true
@@ -28,26 +27,16 @@ module _ (f : List ℕ) (g : ℕ) (eg : g ≡ group_count f) where
     by_zero z ez h =
         rw (eq-eqb (length f) (saved_length (group_count f)) (l ∙ ap saved_length eg), eq-eqb (record_distance f) (saved_length (group_count f)) (sym ed ∙ h ∙ ap saved_length eg), ez)
 
-returns : tie.Need-returns
+pub returns-then-file-len : goal.returns-then-file-len
+returns-then-file-len c =
+    sym (by_length c.args.file.now c.trailer_field.result c.trailer_field.ensures (λ q. let other = c.if-file-len.true in omega arith))
+
+pub returns-then-trailer_field-len : goal.returns-then-trailer_field-len
+returns-then-trailer_field-len c =
+    sym (by-distance c.args.file.now c.trailer_field.result c.trailer_field.ensures c.if-file-len.false c.trailer_field-2.result c.trailer_field-2.ensures (λ q. let other = c.if-trailer_field-len.true in omega arith))
+
+pub returns : goal.returns
 returns c =
-    let n = c.before in
-    sym (by_length n.before.before.args.file.now n.trailer-field.result n.trailer-field.ensures (λ q. let other = c.if1.true in omega arith))
-
-returns-2 : tie.Need-returns-2
-returns-2 c =
-    let d = c.before in
-    let n = d.before.before in
-    sym (by-distance n.before.before.args.file.now n.trailer-field.result n.trailer-field.ensures d.before.if1.false d.trailer-field2.result d.trailer-field2.ensures (λ q. let other = c.if2.true in omega arith))
-
-returns-3 : tie.Need-returns-3
-returns-3 c =
-    let d = c.before.before in
-    let n = d.before.before in
     sym
-    (by_zero n.before.before.args.file.now n.trailer-field.result n.trailer-field.ensures d.before.if1.false d.trailer-field2.result d.trailer-field2.ensures
-    c.trailer-field3.result c.trailer-field3.ensures c.before.if2.false)
-
-pub wrong-layout-spec : {M : Type 1} → statement M
-wrong-layout-spec =
-    tie.close
-    (tie.spec (λ c κs. search rules) (λ c. search rules) (λ c. search rules) (λ c. search rules) returns (λ c κs. search rules) (λ c. search rules) returns-2 (λ c κs. search rules) returns-3)
+    (by_zero c.args.file.now c.trailer_field.result c.trailer_field.ensures c.if-file-len.false c.trailer_field-2.result c.trailer_field-2.ensures
+    c.trailer_field-3.result c.trailer_field-3.ensures c.if-trailer_field-len.false)
