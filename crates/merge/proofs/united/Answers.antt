@@ -19,6 +19,7 @@ use Rattle.table.proofs.State.{length-sections}
 use Rattle.merge.proofs.State.{none_overflow}
 use Rattle.merge.proofs.Walk.{length_back, any_back, merge_none}
 use Rattle.merge.proofs.united.Goals as goal
+use Rattle.merge.proofs.united.Goals.{then-last_count-gt-MOST_ROWS, else-last_count-gt-MOST_ROWS}
 
 -- what one section more says of a section with too many rows; `rest` is what the sections before it say
 module _ {s s' : List ℕ} {i j : ℕ} {e : Ends} (b : StepBack s i s' j e) (overflow : Bool) {r : ℕ} (q : r ≡ (last_section s i s' j e).count) {overflow' all : Bool} where
@@ -68,7 +69,10 @@ loop-j-preserved c =
       b.sound₂,
       omega (arith, l.invariant.2, b.within.fewer),
       omega (arith, l.invariant.3, length_back b),
-      ⊎_elim (λ w. taken b l.overflow c.last_count.ensures w.0.true w.1 l.invariant.4) (λ w. passed b l.overflow c.last_count.ensures w.0.false w.1 l.invariant.4) c.if-last_count-gt-MOST_ROWS.branch,
+      elim c.if-last_count-gt-MOST_ROWS.branch [
+        then-last_count-gt-MOST_ROWS w ↦ taken b l.overflow c.last_count.ensures w.if-last_count-gt-MOST_ROWS.true w.overflow-is l.invariant.4 |
+        else-last_count-gt-MOST_ROWS w ↦ passed b l.overflow c.last_count.ensures w.if-last_count-gt-MOST_ROWS.false w.overflow-is l.invariant.4
+      ],
     )
 
 pub overflow_add-result : goal.overflow_add-result
