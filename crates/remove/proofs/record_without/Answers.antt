@@ -1,15 +1,13 @@
 -- `record_without`: the count and the three levels are subtracted, the other fields stay.
 use Prim.Native.Nat.{◌-◌}
 use mathlib.Core.Path.{◌≡◌}
-use borrow.Author.Rules.{rules}
 use Rattle.level.specs.declared.SplitTotal.{SplitTotal}
 use Rattle.level.specs.Level.{below}
 use Rattle.level.specs.Carry.{split_of}
 use Rattle.record.specs.declared.Record.{Record}
 use Rattle.record.specs.Section.{meaning, record_of}
 use Rattle.remove.specs.Remaining.{without_at, without}
-use Rattle.remove.proofs.record_without.Statement.{statement}
-use Rattle.remove.proofs.record_without.Tie as tie
+use Rattle.remove.proofs.record_without.Goals as goal
 
 joined :
     (r p : Record) {high middle low : SplitTotal} →
@@ -20,12 +18,6 @@ joined :
 unfolding without
 joined r p h m l = rw (h, m, l)
 
-returns : tie.Need-returns
+pub returns : goal.returns
 returns c =
-    let s = c.before.before.before.before.before in
-    joined s.args.r s.args.p c.before.before.total-without.ensures c.before.total-without2.ensures c.total-without3.ensures
-
-pub record-without-spec : {M : Type 1} → statement M
-record-without-spec =
-    tie.close
-    (tie.spec (λ c. search rules) (λ c κs. search rules) (λ c κs. search rules) (λ c κs. search rules) returns)
+    joined c.args.r c.args.p c.total_without.ensures c.total_without-2.ensures c.total_without-3.ensures

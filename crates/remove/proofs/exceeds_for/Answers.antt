@@ -4,7 +4,6 @@ use mathlib.Core.Path.{◌≡◌, refl, sym, ap, ap₂, ◌∙◌}
 use mathlib.Core.Bool.{Bool, true, false, not, ◌||◌}
 use native.Mathlib.Decide.{dec_le}
 use native.Mathlib.Omega.{arith}
-use borrow.Author.Rules.{rules}
 use borrow.Author.Tests.{not-true, not-false, lt-ltb, le-ltb, le-leb, lt-leb}
 use lib.Dec.{ltb}
 use lib.IntN.{nat_abs}
@@ -15,8 +14,7 @@ use Rattle.record.specs.declared.Record.{Record}
 use Rattle.record.specs.Section.{meaning}
 use Rattle.record.specs.Sound.{sound_total}
 use Rattle.remove.specs.Remaining.{exceeds_for}
-use Rattle.remove.proofs.exceeds_for.Statement.{statement}
-use Rattle.remove.proofs.exceeds_for.Tie as tie
+use Rattle.remove.proofs.exceeds_for.Goals as goal
 
 too_large : (n : ℕ) (h : SplitTotal) → h.residue < carry_base → ltb (n * level_bound) (nat_abs (total_of h)) ≡ not (sound_total n h)
 unfolding sound_total
@@ -35,21 +33,14 @@ module _ (r : Record) (n : ℕ) (l : (r.high.residue < carry_base) × (r.middle.
       → not x || (not y || not (sound_total n r.low)) ≡ exceeds_for n (meaning r)
   tested x y p q = sym (by_tests ∙ rw (p, q))
 
-returns : tie.Need-returns
-returns c = let s = c.before.before in tested s.args.r s.args.count s.requires false (sound_total s.args.count s.args.r.middle) (sym c.before.total-sound.ensures ∙ not-true c.before.total-sound.result c.if1.true) refl
+pub returns-then-not-total_sound : goal.returns-then-not-total_sound
+returns-then-not-total_sound c = tested c.args.r c.args.count c.requires false (sound_total c.args.count c.args.r.middle) (sym c.total_sound.ensures ∙ not-true c.total_sound.result (ap not c.if-not-total_sound.true)) refl
 
-returns-2 : tie.Need-returns-2
-returns-2 c =
-    let s = c.before.before.before.before in
-    tested s.args.r s.args.count s.requires true false (sym c.before.before.before.total-sound.ensures ∙ not-false c.before.before.before.total-sound.result c.before.before.if1.false) (sym c.before.total-sound2.ensures ∙ not-true c.before.total-sound2.result c.if2.true)
+pub returns-then-not-total_sound-2 : goal.returns-then-not-total_sound-2
+returns-then-not-total_sound-2 c =
+    tested c.args.r c.args.count c.requires true false (sym c.total_sound.ensures ∙ not-false c.total_sound.result (ap not c.if-not-total_sound.false)) (sym c.total_sound-2.ensures ∙ not-true c.total_sound-2.result (ap not c.if-not-total_sound-2.true))
 
-returns-3 : tie.Need-returns-3
-returns-3 c =
-    let s = c.before.before.before.before.before in
-    ap not c.total-sound3.ensures
-    ∙ tested s.args.r s.args.count s.requires true true (sym c.before.before.before.before.total-sound.ensures ∙ not-false c.before.before.before.before.total-sound.result c.before.before.before.if1.false) (sym c.before.before.total-sound2.ensures ∙ not-false c.before.before.total-sound2.result c.before.if2.false)
-
-pub exceeds-for-spec : {M : Type 1} → statement M
-exceeds-for-spec =
-    tie.close
-    (tie.spec (λ c κs. search rules) returns (λ c κs. search rules) returns-2 (λ c κs. search rules) returns-3)
+pub returns : goal.returns
+returns c =
+    ap not c.total_sound-3.ensures
+    ∙ tested c.args.r c.args.count c.requires true true (sym c.total_sound.ensures ∙ not-false c.total_sound.result (ap not c.if-not-total_sound.false)) (sym c.total_sound-2.ensures ∙ not-false c.total_sound-2.result (ap not c.if-not-total_sound-2.false))
