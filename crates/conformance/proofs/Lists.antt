@@ -27,6 +27,7 @@ one_more f g q r = (ap₂ ◌∷◌ q.0 (ap f q.1 ∙ r.0), ap g q.1 ∙ r.1)
 worked : (s : State) (cs : List Call) (xs : List Answer) (s' : State) → Worked s cs xs s' → (answers s cs ≡ xs) × (state_after s cs ≡ s')
 unfolding answers state_after
 worked s [] xs s' done = (refl, refl)
+worked s (c ∷ cs) [] s'' x'' = elim x'' [ ]
 worked s (c ∷ cs) (x ∷ xs) s'' (next {s' = s'} p w) = one_more (λ t. answers t cs) (λ t. state_after t cs) (steps s c x s' p) (worked s' cs xs s'' w)
 
 table_is : (h : History) (xs : List Answer) (s : State) → CarriedOut h xs s → (i : ℕ) → s.tables i ≡ table h i

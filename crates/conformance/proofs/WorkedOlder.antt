@@ -26,6 +26,7 @@ steps_older s c x s' (by_girth_older_load i n κs a z e f p l) = loaded s i (old
 listed : (s : State) (cs : List OlderCall) (xs : List Answer) (s' : State) → WorkedOlder s cs xs s' → (answers_older s cs ≡ xs) × (state_after_older s cs ≡ s')
 unfolding answers_older state_after_older
 listed s [] xs s' older-done = (refl, refl)
+listed s (c ∷ cs) [] s'' x'' = elim x'' [ ]
 listed s (c ∷ cs) (x ∷ xs) s'' (older-next {s' = s'} p w) = one_more (λ t. answers_older t cs) (λ t. state_after_older t cs) (steps_older s c x s' p) (listed s' cs xs s'' w)
 
 -- so table i is the one of which the claims about older files speak

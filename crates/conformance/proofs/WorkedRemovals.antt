@@ -30,7 +30,7 @@ use Rattle.accounts.specs.Claim.{Way, table_of, account_of, remaining_bits}
 use Rattle.accounts.proofs.Claim.{card9}
 use Rattle.conformance.specs.WorkedRemovals.{CalledAny, by_other, by_remove, by_girth_remove, by_girth_remove_of_no_kind, WorkedAny, any_done, any_next, CarriedOutAny, WorkedRemovalsIs}
 use Rattle.conformance.proofs.Steps.{kind-back, no_kind_not_0, changed, steps}
-use Rattle.conformance.proofs.Possible.{ref}
+use Rattle.conformance.proofs.Possible.{ref, mut_ref}
 use Rattle.conformance.proofs.Lists.{one_more, told_of}
 use Rattle.conformance.proofs.WorkedOlder.{steps_older, one-older-possible}
 
@@ -60,6 +60,7 @@ steps_any s c x s' (by_girth_remove_of_no_kind i κs a z e k p l) =
 listed : (s : State) (cs : List AnyCall) (xs : List Answer) (s' : State) → WorkedAny s cs xs s' → (answers_any s cs ≡ xs) × (state_after_any s cs ≡ s')
 unfolding answers_any state_after_any
 listed s [] xs s' any_done = (refl, refl)
+listed s (c ∷ cs) [] s'' x'' = elim x'' [ ]
 listed s (c ∷ cs) (x ∷ xs) s'' (any_next {s' = s'} p w) = one_more (λ t. answers_any t cs) (λ t. state_after_any t cs) (steps_any s c x s' p) (listed s' cs xs s'' w)
 
 -- so table i is the one of which Card 9 speaks
@@ -75,8 +76,8 @@ one_any_possible s (remove i kind ks vs p n) =
     subst (λ (m : ℕ). (x : Answer) × (s' : State) × CalledAny s (remove i kind ks vs p m) x s') (length-replicate n 0) (
       _,
       _,
-      by_girth_remove i kind ([], ([], ([], ([], tt)))) (ref b, (g, (ref ks, (ref vs, (told, (ref w, tt)))))) (returns_count (remove_of_width (kind_of_width told) b g ks vs (length w)))
-          (ref (remove_of_width_leaves (kind_of_width told) b g ks vs (length w)), (g, (ref ks, (ref vs, (told, (ref (cleared w), tt)))))) p (width_back kind) (refl, refl) (refl, (refl, refl)),
+      by_girth_remove i kind ([], ([], ([], ([], tt)))) (mut_ref b, (g, (ref ks, (ref vs, (told, (mut_ref w, tt)))))) (returns_count (remove_of_width (kind_of_width told) b g ks vs (length w)))
+          (mut_ref (remove_of_width_leaves (kind_of_width told) b g ks vs (length w)), (g, (ref ks, (ref vs, (told, (mut_ref (cleared w), tt)))))) p (width_back kind) (refl, refl) (refl, (refl, refl)),
     )
 
 -- and so can a list of them

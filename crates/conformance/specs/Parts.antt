@@ -18,6 +18,6 @@ pub record Parts : Type 1 where
       → (z.now ≡ value_column (kind_of a.0.now) a.0.now) × (z.ref_ptr ≡ address_after a.0.ref_ptr (value_start (kind_of a.0.now) a.0.now))
   -- so the empty part of a file without rows does not stand at the file's front, unless its column starts there
   pub keys_not_in_front : (κs : Lfts 1) (a : Dens κs keys_kinds.ps) (z : (res_t keys_kinds.r κs).Denot) (e : AtExit (ended_of 1 keys_kinds.ps keys_kinds.r) κs) → keys_reads.Learnt κs a z e
-      → read_outcome (kind_of a.0.now) a.0.now ≡ accepted 0 → key_distance a.0.now < length a.0.now → z.ptr ≡ a.0.ref_ptr → ⊥
+      → read_outcome (kind_of a.0.now) a.0.now ≡ accepted 0 → key_distance a.0.now < length a.0.now → z.ref_ptr ≡ a.0.ref_ptr → ⊥
   pub values_not_in_front : (κs : Lfts 1) (a : Dens κs values_kinds.ps) (z : (res_t values_kinds.r κs).Denot) (e : AtExit (ended_of 1 values_kinds.ps values_kinds.r) κs) → values_reads.Learnt κs a z e
-      → read_outcome (kind_of a.0.now) a.0.now ≡ accepted 0 → value_distance a.0.now < length a.0.now → z.ptr ≡ a.0.ref_ptr → ⊥
+      → read_outcome (kind_of a.0.now) a.0.now ≡ accepted 0 → value_distance a.0.now < length a.0.now → z.ref_ptr ≡ a.0.ref_ptr → ⊥
