@@ -4,9 +4,10 @@
 ghost use Rattle.std.specs.Prelude.{◌-◌, ◌≤◌, ◌≡◌, length, take};
 ghost use Rattle.girths.specs.Input.{GaveAtMost};
 
-use libc::{STDERR_FILENO, STDIN_FILENO, STDOUT_FILENO};
 use output::OutputAnswer;
 use report::LONGEST_TEXT;
+use std::io;
+use std::io::{Print, Read};
 
 // How many bytes were read, or that a read failed.
 #[derive(Clone, Copy)]
@@ -15,26 +16,33 @@ enum Received {
     Failed,
 }
 
-// One read after the first done bytes, which stay.
-fn read_more(buffer: &mut [u8], done: usize) -> Received
+// Tells on standard error which stream failed, and why. Nobody can be told of a failure to tell.
+fn tell(rt: &HostRuntime, stream: &str, error: io::Error) {
+    let _ = eprintln!(rt; "girths: {stream}: {error}");
+}
+
+// One read after the first done bytes, which stay. A failed read is told.
+fn read_more(rt: &HostRuntime, buffer: &mut [u8], done: usize) -> Received
     requires { done ≤ length buffer.old }
     ensures gave_at_most { GaveAtMost (length buffer.old - done) result }
     ensures buffer_unchanged { take done buffer.new ≡ take done buffer.old }
 {
-    let got = libc::read(STDIN_FILENO, &mut buffer[done..]);
-    if got < 0 {
-        return Received::Failed;
+    match rt.stdin().read(&mut buffer[done..]) {
+        Ok(n) => Received::Length(n),
+        Err(e) => {
+            tell(rt, "standard input", e);
+            Received::Failed
+        }
     }
-    Received::Length(io::count(got, &buffer[done..]))
 }
 
 // Reads until the input ends or the buffer is full.
-fn read_all(buffer: &mut [u8]) -> Received
+fn read_all(rt: &HostRuntime, buffer: &mut [u8]) -> Received
     ensures { GaveAtMost (length buffer.old) result }
 {
     let mut done = 0;
     while done < buffer.len() {
-        let Received::Length(n) = read_more(buffer, done) else {
+        let Received::Length(n) = read_more(rt, buffer, done) else {
             return Received::Failed;
         };
         if n == 0 {
@@ -45,25 +53,25 @@ fn read_all(buffer: &mut [u8]) -> Received
     Received::Length(done)
 }
 
-fn print_report(file: &[u8]) {
+fn print_report(rt: &HostRuntime, file: &[u8]) {
     let mut text = [0u8; LONGEST_TEXT];
     match report::report(file, &mut text) {
         OutputAnswer::Length(n) => {
-            if !io::write_all(STDOUT_FILENO, &text[..n]) {
-                os::fail(b"girths: standard output");
+            if let Err(e) = rt.stdout().write_all(&text[..n]) {
+                tell(rt, "standard output", e);
             }
         }
         OutputAnswer::Refused(_) => {
-            io::write_all(STDERR_FILENO, b"girths: the report is too long\n");
+            let _ = eprintln!(rt; "girths: the report is too long");
         }
     }
 }
 
 // The buffer has one byte more than the longest file, so that a longer one is seen.
-fn main() {
+fn main(rt: HostRuntime) {
     let mut buffer = [0u8; 65537];
-    match read_all(&mut buffer) {
-        Received::Length(n) => print_report(&buffer[..n]),
-        Received::Failed => os::fail(b"girths: standard input"),
+    match read_all(&rt, &mut buffer) {
+        Received::Length(n) => print_report(&rt, &buffer[..n]),
+        Received::Failed => {}
     }
 }
