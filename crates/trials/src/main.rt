@@ -81,14 +81,13 @@ fn fill_ones(keys: &mut [u8], values: &mut [u8], n: usize)
     }
 }
 
-// A number, in hexadecimal.
-fn print(x: u64) {
-    io::print_hex(1, x, 1);
-    io::write_all(1, b" ");
+// A number, in hexadecimal. A write that fails is not told: the output is then not the stored one.
+fn print(rt: &HostRuntime, x: u64) {
+    let _ = print!(rt; "{x:x} ");
 }
 
-fn end_line() {
-    io::write_all(1, b"\n");
+fn end_line(rt: &HostRuntime) {
+    let _ = println!(rt);
 }
 
 // The two's complement of a number.
@@ -178,14 +177,14 @@ fn call(t: &mut [u8], g: u64, other: &[u8], h: u64, x: u64, kind: u64) -> i64 {
 }
 
 // The same, with its answer said; the group count after it.
-fn step(t: &mut [u8], g: u64, other: &[u8], h: u64, x: u64, kind: u64) -> u64 {
+fn step(rt: &HostRuntime, t: &mut [u8], g: u64, other: &[u8], h: u64, x: u64, kind: u64) -> u64 {
     let r = call(t, g, other, h, x, kind);
-    print(word(r));
+    print(rt, word(r));
     groups_after(r, g)
 }
 
 // Section, answer, row count and side of the line, sum and its side, mill figure, whether it is exact; nothing of an absent section below 16.
-fn print_section(t: &[u8], g: u64, key: u32) {
+fn print_section(rt: &HostRuntime, t: &[u8], g: u64, key: u32) {
     let mut count: u64 = 9;
     let mut bits: u64 = 9;
     let mut figure: i64 = 9;
@@ -194,167 +193,167 @@ fn print_section(t: &[u8], g: u64, key: u32) {
     if r == -13 && key < 16 {
         return;
     }
-    print(key as u64);
-    print(word(r));
-    print(count);
-    print(word(side));
+    print(rt, key as u64);
+    print(rt, word(r));
+    print(rt, count);
+    print(rt, word(side));
     exports::girth_sum(t, g, key, &mut bits, &mut side);
-    print(bits);
-    print(word(side));
+    print(rt, bits);
+    print(rt, word(side));
     exports::girth_figure(t, g, key, &mut figure);
-    print(word(figure));
-    print(word(exports::girth_exact(t, g, key)));
-    end_line();
+    print(rt, word(figure));
+    print(rt, word(exports::girth_exact(t, g, key)));
+    end_line(rt);
 }
 
 // The answer of the totals for g records, the sections and the rows.
-fn print_totals(t: &[u8], g: u64) {
+fn print_totals(rt: &HostRuntime, t: &[u8], g: u64) {
     let mut sections: u64 = 9;
     let mut rows: u64 = 9;
     let r = exports::girth_totals(t, g, &mut sections, &mut rows);
-    print(word(r));
-    print(sections);
-    print(rows);
+    print(rt, word(r));
+    print(rt, sections);
+    print(rt, rows);
 }
 
 // What a load of a file into a table says, and what it leaves there.
-fn print_load(file: &[u8], t: &mut [u8]) {
-    print(word(exports::girth_load(file, t)));
-    print(digest(t));
+fn print_load(rt: &HostRuntime, file: &[u8], t: &mut [u8]) {
+    print(rt, word(exports::girth_load(file, t)));
+    print(rt, digest(t));
 }
 
 // What a save says and leaves in an output with room for 6 groups, then the load of the file that was written (of no bytes where it is refused), into a table with room for 5.
-fn print_save(t: &[u8], g: u64) {
+fn print_save(rt: &HostRuntime, t: &[u8], g: u64) {
     let mut out = [0xC3u8; 400];
     let mut other = [0x5Au8; 320];
     let r = exports::girth_save(t, g, &mut out);
-    print(word(r));
-    print(digest(&out));
-    print_load(part(&out, word(r) as usize), &mut other);
+    print(rt, word(r));
+    print(rt, digest(&out));
+    print_load(rt, part(&out, word(r) as usize), &mut other);
 }
 
 // Group count and digest of a table, its totals, those for a record too many, how it is saved and loaded, then its sections.
-fn print_table(t: &[u8], g: u64) {
-    print(g);
-    print(digest(t));
-    print_totals(t, g);
-    print_totals(t, std::num::wrapping_add_u64(g, 1));
-    print_save(t, g);
-    end_line();
+fn print_table(rt: &HostRuntime, t: &[u8], g: u64) {
+    print(rt, g);
+    print(rt, digest(t));
+    print_totals(rt, t, g);
+    print_totals(rt, t, std::num::wrapping_add_u64(g, 1));
+    print_save(rt, t, g);
+    end_line(rt);
     let mut key: u32 = 0;
     while key < 17 {
-        print_section(t, g, key);
+        print_section(rt, t, g, key);
         key += 1;
     }
 }
 
 // What a removal says and leaves.
-fn print_removal(t: &mut [u8], g: u64, n: usize, x: u64, kind: u64)
+fn print_removal(rt: &HostRuntime, t: &mut [u8], g: u64, n: usize, x: u64, kind: u64)
     requires { n < 32 }
 {
-    print(word(remove_random(t, g, n, x, kind)));
-    print(digest(t));
-    end_line();
+    print(rt, word(remove_random(t, g, n, x, kind)));
+    print(rt, digest(t));
+    end_line(rt);
 }
 
 // Twelve calls on two tables, then what they hold; the second one without the rows of the last call, and the first one without the first of these.
-fn run_calls(a: &mut [u8], b: &mut [u8], state: u64, kind: u64) {
+fn run_calls(rt: &HostRuntime, a: &mut [u8], b: &mut [u8], state: u64, kind: u64) {
     let mut g: u64 = 0;
     let mut h: u64 = 0;
     let mut x = state;
     let mut i: u32 = 0;
     while i < 6 {
         x = next(x);
-        g = step(a, g, b, h, x, kind);
+        g = step(rt, a, g, b, h, x, kind);
         x = next(x);
-        h = step(b, h, a, g, x, kind);
+        h = step(rt, b, h, a, g, x, kind);
         i += 1;
     }
-    end_line();
-    print_table(a, g);
-    print_table(b, h);
-    print_removal(b, h, ((x >> 8) % 32) as usize, x, kind);
-    print_removal(a, g, ((x >> 8) % 4) as usize, x, kind);
+    end_line(rt);
+    print_table(rt, a, g);
+    print_table(rt, b, h);
+    print_removal(rt, b, h, ((x >> 8) % 32) as usize, x, kind);
+    print_removal(rt, a, g, ((x >> 8) % 4) as usize, x, kind);
 }
 
 // A set of calls on two tables that start empty.
-fn run_set(state: u64, kind: u64) {
+fn run_set(rt: &HostRuntime, state: u64, kind: u64) {
     let mut a = [0x5Au8; 640];
     let mut b = [0x5Au8; 384];
-    run_calls(&mut a, &mut b, state, kind);
+    run_calls(rt, &mut a, &mut b, state, kind);
 }
 
 // Each table merged into the other in turn, until the row count is full.
-fn run_merges(a: &mut [u8], b: &mut [u8]) {
+fn run_merges(rt: &HostRuntime, a: &mut [u8], b: &mut [u8]) {
     let mut g = groups_after(add_random(a, 0, 9, 0x123456789, 4), 0);
     let mut h: u64 = 0;
     let mut i: u32 = 0;
     while i < 24 {
         let r = exports::girth_merge(b, h, a, g);
-        print(word(r));
+        print(rt, word(r));
         h = groups_after(r, h);
         let q = exports::girth_merge(a, g, b, h);
-        print(word(q));
+        print(rt, word(q));
         g = groups_after(q, g);
         i += 1;
     }
-    end_line();
-    print_table(a, g);
-    print_table(b, h);
+    end_line(rt);
+    print_table(rt, a, g);
+    print_table(rt, b, h);
 }
 
-fn run_doubling() {
+fn run_doubling(rt: &HostRuntime) {
     let mut a = [0x5Au8; 640];
     let mut b = [0x5Au8; 384];
-    run_merges(&mut a, &mut b);
+    run_merges(rt, &mut a, &mut b);
 }
 
 // The first 64 bytes of a table, as words.
-fn print_record(t: &[u8]) {
+fn print_record(rt: &HostRuntime, t: &[u8]) {
     let mut i: usize = 0;
     while i < 8 {
         if i * 8 + 8 <= t.len() {
-            print(codec::u64_at(t, i * 8));
+            print(rt, codec::u64_at(t, i * 8));
         }
         i += 1;
     }
-    end_line();
+    end_line(rt);
 }
 
 // 15 adds of the same columns, then one of their first row.
-fn add_often(t: &mut [u8], work: &mut [u8], keys: &[u8], values: &[u8]) {
+fn add_often(rt: &HostRuntime, t: &mut [u8], work: &mut [u8], keys: &[u8], values: &[u8]) {
     let mut g: u64 = 0;
     let mut i: u32 = 0;
     while i < 15 {
         g = groups_after(exports::girth_add(t, g, keys, values, 8, work), g);
         i += 1;
     }
-    print_record(t);
+    print_record(rt, t);
     exports::girth_add(t, g, part(keys, 4), part(values, 8), 8, work);
-    print_record(t);
+    print_record(rt, t);
 }
 
 // 65,535 rows of 1, then one more.
-fn run_ones() {
+fn run_ones(rt: &HostRuntime) {
     let mut keys = [0u8; 17476];
     let mut values = [0u8; 34952];
     fill_ones(&mut keys, &mut values, 4369);
     let mut t = [0u8; 64];
     let mut work = [0u8; 64];
-    add_often(&mut t, &mut work, &keys, &values);
+    add_often(rt, &mut t, &mut work, &keys, &values);
 }
 
 // What the reader says of a file.
-fn print_file(file: &[u8]) {
+fn print_file(rt: &HostRuntime, file: &[u8]) {
     let mut keys: u64 = 9;
     let mut values: u64 = 9;
     let mut width: u64 = 9;
     let n = exports::girth_read(file, &mut keys, &mut values, &mut width);
-    print(word(n));
-    print(keys);
-    print(values);
-    print(width);
-    end_line();
+    print(rt, word(n));
+    print(rt, keys);
+    print(rt, values);
+    print(rt, width);
+    end_line(rt);
 }
 
 // A mark of doubles, of short floats or of neither.
@@ -367,31 +366,31 @@ fn patch_mark(x: u64) -> u32 {
 }
 
 // A file of 64 bytes whose trailer is near a good one; the mark is of either kind, or of none.
-fn run_file(x: u64) {
+fn run_file(rt: &HostRuntime, x: u64) {
     let mut file = [0u8; 64];
     codec::put_u32(&mut file, 48, (x % 4) as u32);
     codec::put_u32(&mut file, 52, (14 + (x >> 8) % 64) as u32);
     codec::put_u32(&mut file, 56, (14 + (x >> 16) % 64) as u32);
     codec::put_u32(&mut file, 60, patch_mark(x >> 24));
-    print_file(&file);
+    print_file(rt, &file);
 }
 
-fn run_files() {
+fn run_files(rt: &HostRuntime) {
     let long = [0u8; 65537];
-    print_file(&long);
-    print_file(part(&long, 15));
-    print_file(part(&long, 16));
+    print_file(rt, &long);
+    print_file(rt, part(&long, 15));
+    print_file(rt, part(&long, 16));
     let mut x: u64 = 0xDEADBEEFCAFE;
     let mut i: u32 = 0;
     while i < 400 {
         x = next(x);
-        run_file(x);
+        run_file(rt, x);
         i += 1;
     }
 }
 
 // A saved table of one record, now and then with a row count of 0, a finest power of 2,099 or a wrong field of its trailer, loaded into a table that may be a byte too short.
-fn run_saved_file(x: u64) {
+fn run_saved_file(rt: &HostRuntime, x: u64) {
     let mut file = [0u8; 80];
     let mut t = [0x5Au8; 72];
     let mut short = [0x5Au8; 63];
@@ -403,19 +402,19 @@ fn run_saved_file(x: u64) {
     codec::put_u32(&mut file, 72, (((x >> 24) % 8) / 7) as u32);
     codec::put_u32(&mut file, 76, (0x4C424154 - ((x >> 32) % 8) / 7) as u32);
     if (x >> 40) % 4 == 0 {
-        print_load(&file, &mut short);
+        print_load(rt, &file, &mut short);
     } else {
-        print_load(&file, &mut t);
+        print_load(rt, &file, &mut t);
     }
-    end_line();
+    end_line(rt);
 }
 
-fn run_saved_files() {
+fn run_saved_files(rt: &HostRuntime) {
     let mut x: u64 = 0xBADC0FFEE;
     let mut i: u32 = 0;
     while i < 100 {
         x = next(x);
-        run_saved_file(x);
+        run_saved_file(rt, x);
         i += 1;
     }
 }
@@ -433,38 +432,38 @@ fn fill_sections(keys: &mut [u8], values: &mut [u8], n: usize)
 }
 
 // A table of 1,024 groups, which cannot be saved, and its first 1,023, which can: the file, and the table that it is loaded into.
-fn save_full(t: &[u8], out: &mut [u8], other: &mut [u8]) {
-    print(word(exports::girth_save(t, 1024, out)));
-    print(digest(out));
+fn save_full(rt: &HostRuntime, t: &[u8], out: &mut [u8], other: &mut [u8]) {
+    print(rt, word(exports::girth_save(t, 1024, out)));
+    print(rt, digest(out));
     let r = exports::girth_save(t, 1023, out);
-    print(word(r));
-    print(digest(out));
-    print_load(part(out, word(r) as usize), other);
-    end_line();
+    print(rt, word(r));
+    print(rt, digest(out));
+    print_load(rt, part(out, word(r) as usize), other);
+    end_line(rt);
 }
 
-fn run_full() {
+fn run_full(rt: &HostRuntime) {
     let mut keys = [0u8; 4096];
     let mut values = [0u8; 8192];
     fill_sections(&mut keys, &mut values, 1024);
     let mut t = [0u8; 65536];
     let mut work = [0u8; 65536];
-    print(word(exports::girth_add(&mut t, 0, &keys, &values, 8, &mut work)));
+    print(rt, word(exports::girth_add(&mut t, 0, &keys, &values, 8, &mut work)));
     let mut out = [0xC3u8; 65560];
-    save_full(&t, &mut out, &mut work);
+    save_full(rt, &t, &mut out, &mut work);
 }
 
-fn main() {
-    run_ones();
-    run_doubling();
-    run_files();
-    run_saved_files();
-    run_full();
+fn main(rt: HostRuntime) {
+    run_ones(&rt);
+    run_doubling(&rt);
+    run_files(&rt);
+    run_saved_files(&rt);
+    run_full(&rt);
     let mut x: u64 = 88172645463325252;
     let mut i: u64 = 0;
     while i < 320 {
         x = next(x);
-        run_set(x, (x & 0xFFFFFFFFFFFFFFF0) | (i & 15));
+        run_set(&rt, x, (x & 0xFFFFFFFFFFFFFFF0) | (i & 15));
         i += 1;
     }
 }
