@@ -1,4 +1,4 @@
-// The public calls for other languages. A call returns a number of at least 0, or minus the refusal's number; further numbers go
+// The public calls for other languages, which crate exports_c gives to C under the same names. A call returns a number of at least 0, or minus the refusal's number; further numbers go
 // out through references, and are 0 when the call is refused.
 #![tactic(auto)]
 
@@ -39,8 +39,7 @@ fn minus(r: Refusal) -> i64
 }
 
 // The row count of a patch file, where its columns start, and how many bytes each of its values has.
-#[unsafe(no_mangle)]
-pub extern "C" fn girth_read(
+pub fn girth_read(
     file: &[u8],
     keys_at: &mut u64,
     values_at: &mut u64,
@@ -105,8 +104,7 @@ fn refuse_unknown_width(table: &mut [u8], g: u64, work: &mut [u8]) -> i64
 }
 
 // Adds the rows of two columns to a table of g records, each value having so many bytes. The work buffer holds only zeros afterwards.
-#[unsafe(no_mangle)]
-pub extern "C" fn girth_add(
+pub fn girth_add(
     table: &mut [u8],
     g: u64,
     keys: &[u8],
@@ -127,8 +125,7 @@ pub extern "C" fn girth_add(
 }
 
 // Removes the rows of two columns from a table of g records, each value having so many bytes. The work buffer holds only zeros afterwards.
-#[unsafe(no_mangle)]
-pub extern "C" fn girth_remove(
+pub fn girth_remove(
     table: &mut [u8],
     g: u64,
     keys: &[u8],
@@ -149,8 +146,7 @@ pub extern "C" fn girth_remove(
 }
 
 // Merges a table of g2 records into one of g1.
-#[unsafe(no_mangle)]
-pub extern "C" fn girth_merge(first: &mut [u8], g1: u64, second: &[u8], g2: u64) -> i64
+pub fn girth_merge(first: &mut [u8], g1: u64, second: &[u8], g2: u64) -> i64
     ensures answer { result ≡ returns_count (merge_outcome first.old g1 second.now g2) }
     ensures content { first.new ≡ merge_leaves first.old g1 second.now g2 }
 {
@@ -169,8 +165,7 @@ fn side_number(side: Side) -> i64
 }
 
 // The sum of a section, as 64 bits, and its side of the kept value.
-#[unsafe(no_mangle)]
-pub extern "C" fn girth_sum(table: &[u8], g: u64, key: u32, bits: &mut u64, side: &mut i64) -> i64
+pub fn girth_sum(table: &[u8], g: u64, key: u32, bits: &mut u64, side: &mut i64) -> i64
     ensures answer { result ≡ returns_zero (sum_outcome table.now g key) }
     ensures bits { bits.new ≡ writes 0 (λ x. double_bits x.sum) (sum_outcome table.now g key) }
     ensures side { side.new ≡ writes (pos 0) (λ x. side_number x.side) (sum_outcome table.now g key) }
@@ -190,8 +185,7 @@ pub extern "C" fn girth_sum(table: &[u8], g: u64, key: u32, bits: &mut u64, side
 }
 
 // The mill figure of a section.
-#[unsafe(no_mangle)]
-pub extern "C" fn girth_figure(table: &[u8], g: u64, key: u32, figure: &mut i64) -> i64
+pub fn girth_figure(table: &[u8], g: u64, key: u32, figure: &mut i64) -> i64
     ensures answer { result ≡ returns_zero (figure_outcome table.now g key) }
     ensures figure { figure.new ≡ writes (pos 0) (λ z. z) (figure_outcome table.now g key) }
 {
@@ -206,8 +200,7 @@ pub extern "C" fn girth_figure(table: &[u8], g: u64, key: u32, figure: &mut i64)
 }
 
 // The finished line of a section: row count, sum as 64 bits, mill figure, the sum's side of the kept value.
-#[unsafe(no_mangle)]
-pub extern "C" fn girth_line(
+pub fn girth_line(
     table: &[u8],
     g: u64,
     key: u32,
@@ -240,8 +233,7 @@ pub extern "C" fn girth_line(
 }
 
 // Whether a section's kept value is known to be the exact sum of its rows: 1 if so, 0 if not.
-#[unsafe(no_mangle)]
-pub extern "C" fn girth_exact(table: &[u8], g: u64, key: u32) -> i64
+pub fn girth_exact(table: &[u8], g: u64, key: u32) -> i64
     ensures { result ≡ returns_flag (exactness_outcome table.now g key) }
 {
     match finish::exactness(table, g as usize, key) {
@@ -252,8 +244,7 @@ pub extern "C" fn girth_exact(table: &[u8], g: u64, key: u32) -> i64
 }
 
 // How many sections and rows a table has.
-#[unsafe(no_mangle)]
-pub extern "C" fn girth_totals(table: &[u8], g: u64, sections: &mut u64, rows: &mut u64) -> i64
+pub fn girth_totals(table: &[u8], g: u64, sections: &mut u64, rows: &mut u64) -> i64
     ensures answer { result ≡ returns_zero (totals_outcome table.now g) }
     ensures sections { sections.new ≡ writes 0 (λ t. t.groups) (totals_outcome table.now g) }
     ensures rows { rows.new ≡ writes 0 (λ t. t.count) (totals_outcome table.now g) }
@@ -282,8 +273,7 @@ fn length_or_minus(a: OutputAnswer) -> i64
 }
 
 // The patch file of two columns, without notes, at the front of out: its length, or minus the refusal's number.
-#[unsafe(no_mangle)]
-pub extern "C" fn girth_write(keys: &[u8], values: &[u8], out: &mut [u8]) -> i64
+pub fn girth_write(keys: &[u8], values: &[u8], out: &mut [u8]) -> i64
     ensures answer { result ≡ returns_count (write_outcome keys.now values.now (length out.old)) }
     ensures content { out.new ≡ write_leaves keys.now values.now out.old }
 {
@@ -291,8 +281,7 @@ pub extern "C" fn girth_write(keys: &[u8], values: &[u8], out: &mut [u8]) -> i64
 }
 
 // The file of a table of g records, at the front of out: its length, or minus the refusal's number.
-#[unsafe(no_mangle)]
-pub extern "C" fn girth_save(table: &[u8], g: u64, out: &mut [u8]) -> i64
+pub fn girth_save(table: &[u8], g: u64, out: &mut [u8]) -> i64
     ensures answer { result ≡ returns_count (save_outcome table.now g (length out.old)) }
     ensures content { out.new ≡ save_leaves table.now g out.old }
 {
@@ -300,8 +289,7 @@ pub extern "C" fn girth_save(table: &[u8], g: u64, out: &mut [u8]) -> i64
 }
 
 // The records of a saved table, at the front of a lent one: their group count, or minus the refusal's number.
-#[unsafe(no_mangle)]
-pub extern "C" fn girth_load(file: &[u8], table: &mut [u8]) -> i64
+pub fn girth_load(file: &[u8], table: &mut [u8]) -> i64
     ensures answer { result ≡ returns_count (load_outcome file.now (length table.old)) }
     ensures content { table.new ≡ load_leaves file.now table.old }
 {
@@ -309,8 +297,7 @@ pub extern "C" fn girth_load(file: &[u8], table: &mut [u8]) -> i64
 }
 
 // The report of a patch file, at the front of out: the length of its text, or -16 where out is shorter.
-#[unsafe(no_mangle)]
-pub extern "C" fn girth_report(file: &[u8], out: &mut [u8]) -> i64
+pub fn girth_report(file: &[u8], out: &mut [u8]) -> i64
     ensures answer { result ≡ returns_count (print_outcome out.old (report_text file.now)) }
     ensures content { out.new ≡ print_leaves out.old (report_text file.now) }
 {
