@@ -2,7 +2,7 @@
  *
  * From the root of the repository:
  *
- *   rt staticlib exports
+ *   bash bindings/build
  *   cc -Wall -Wextra -Ibindings/c -o target/example bindings/c/example.c target/staticlib/libexports.a
  *   target/example samples/two-sections.patch
  */

@@ -1,4 +1,4 @@
-/* The calls of the proved library, for C. Build the archive with `rt staticlib exports`, and link target/staticlib/libexports.a; example.c
+/* The calls of the proved library, for C. Build the archive with `bash bindings/build`, and link target/staticlib/libexports.a; example.c
  * beside this file has the command. docs/FORMATS.md has the patch file, the table, the saved table and the report byte by byte, docs/RULES.md the
  * refusals.
  *

@@ -36,7 +36,7 @@ what a table holds depends on the multiset of its rows alone. A value has a widt
 the rules and the refusals.
 
 The library is target/staticlib/libexports.a of the repository that this file lies in, linked to target/girths.so by `cc` when it is first
-used; where there is no archive yet, `rt` proves and builds it. GIRTHS_ARCHIVE names another archive. NotBuilt says what is missing.
+used; where there is no archive yet, `bindings/build` proves and builds it. GIRTHS_ARCHIVE names another archive. NotBuilt says what is missing.
 """
 import ctypes
 import os
@@ -123,10 +123,11 @@ class Totals(NamedTuple):
 
 # ---- the library
 
-def _run(command, what):
-    """Runs a command in the repository, and tells by NotBuilt what failed."""
-    if shutil.which(command[0]) is None:
-        raise NotBuilt(f'{what}: {command[0]} is not on the path')
+def _run(command, what, *programs):
+    """Runs a command in the repository, which runs further programs, and tells by NotBuilt what failed."""
+    for name in (*programs, command[0]):
+        if shutil.which(name) is None:
+            raise NotBuilt(f'{what}: {name} is not on the path')
     done = subprocess.run(command, cwd=ROOT, stdin=subprocess.DEVNULL, stdout=subprocess.PIPE, stderr=subprocess.STDOUT, text=True)
     if done.returncode != 0:
         raise NotBuilt(f'{what}: {" ".join(map(str, command))} failed:\n' + '\n'.join(done.stdout.splitlines()[-20:]))
@@ -140,7 +141,7 @@ def _archive():
     if not archive.is_file():
         if not (ROOT / 'crates.txt').is_file():
             raise NotBuilt(f'{archive} is missing, and {ROOT} is not the repository that it is built from: name an archive in GIRTHS_ARCHIVE')
-        _run(['rt', 'staticlib', 'exports'], f'{archive} is missing and cannot be built')
+        _run(['bash', ROOT / 'bindings' / 'build'], f'{archive} is missing and cannot be built', 'rt')
     return archive
 
 

@@ -1,5 +1,5 @@
 //! Links the archive of the proved library. GIRTHS_ARCHIVE names it; otherwise it is target/staticlib/libexports.a of the repository that this
-//! crate lies in, and where there is none yet, `rt` proves and builds it.
+//! crate lies in, and where there is none yet, `bindings/build` proves and builds it.
 use std::ffi::OsStr;
 use std::path::{Path, PathBuf};
 use std::process::{Command, Stdio};
@@ -21,10 +21,16 @@ fn build(root: &Path, archive: &Path) {
     if !is_program("rt") {
         stop(&format!("{} is missing, and so is `rt`, the Rattle toolchain that builds it: put rt on the path, or name an archive in GIRTHS_ARCHIVE", archive.display()));
     }
-    let made = Command::new("rt").args(["staticlib", "exports"]).current_dir(root).stdin(Stdio::null()).stdout(Stdio::null()).status();
+    let made = Command::new("bash").arg("bindings/build").current_dir(root).stdin(Stdio::null()).stdout(Stdio::null()).status();
     if !made.is_ok_and(|s| s.success()) || !archive.is_file() {
-        stop(&format!("`rt staticlib exports` failed in {}: run it there to see why", root.display()));
+        stop(&format!("`bash bindings/build` failed in {}: run it there to see why", root.display()));
     }
+}
+
+/// The folders of the crates' sources. What rt keeps lies beside them, in out/.
+fn sources(root: &Path) -> Vec<PathBuf> {
+    let crates = std::fs::read_dir(root.join("crates")).into_iter().flatten().flatten();
+    crates.flat_map(|c| ["src", "specs", "proofs"].map(|f| c.path().join(f))).filter(|p| p.is_dir()).collect()
 }
 
 /// The newest time of a source below a folder.
@@ -48,10 +54,13 @@ fn own_archive() -> PathBuf {
         build(&root, &archive);
     }
     let made = archive.metadata().and_then(|m| m.modified()).ok();
-    if newest(&root.join("crates")) > made {
-        println!("cargo:warning=the archive is older than a source below crates/: `rt staticlib exports` builds it again");
+    if sources(&root).iter().filter_map(|f| newest(f)).max() > made {
+        println!("cargo:warning=the archive is older than a source below crates/: `bash bindings/build` builds it again");
     }
-    println!("cargo:rerun-if-changed={}", root.join("crates").display());
+    println!("cargo:rerun-if-changed={}", root.join("crates.txt").display());
+    for folder in sources(&root) {
+        println!("cargo:rerun-if-changed={}", folder.display());
+    }
     archive
 }
 
