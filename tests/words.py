@@ -1,12 +1,14 @@
 """Checks that each word of the contracts has one meaning.
 
 The words are the names that the libraries' code and the definitions in crates/*/specs declare: definitions, types, their
-constructors and fields, functions, structs, enums, their cases and fields, the clauses of a contract, the names that a module
+constructors and fields, functions, structs, enums, their cases and fields, the clauses of a public call's contract, the names that a module
 is imported by, and the parameters of functions and definitions that are no single letters. Words that differ only in case or in
-`_` and `-` count as one. A word stands in two places only where ONE has the meaning that it has at each, or where it names
-a function or a constant and the definition that the code is held to; a parameter is of one type wherever the code has it. The
-numbers in WRITTEN_OUT alone have the word of another thing. None is a name that a contract or a definition imports from the
-toolchain's library, and no import gives a definition another name.
+`_` and `-` count as one, and so does the name of a claim that has `_lem` after the word that it is about. A word stands in two
+places only where ONE has the meaning that it has at each, or where it names a function or a constant and the definition that the
+code is held to; a parameter is of one type wherever the code has it. In the contract of a function within, names only tell one clause
+from another. The numbers in WRITTEN_OUT alone have the word of another thing. None is a name that a contract or a definition imports
+from the toolchain's library, and no import gives a definition another name. The C functions of exports_c are the calls of exports
+again, with the same parameters and clauses.
 """
 
 import collections
@@ -16,6 +18,9 @@ import sys
 
 ROOT = pathlib.Path(__file__).resolve().parent.parent
 CRATES = ROOT / "crates"
+OWN = {f.name for f in CRATES.iterdir()}
+# the crate whose functions are those of exports again, for C
+TO_C = "exports_c"
 
 # words that stand in more than one place, and what each of them means everywhere
 ONE = {
@@ -101,7 +106,7 @@ ONE = {
     "is_zero": "equal to 0",
     "capacity": "document 01's capacity: the definition and the function that gives it",
     "groups": "a number of groups",
-    "group-count": "a table's group count: the clause about it, and the field of a saved table",
+    "group_count": "a table's group count: the clause about it, and the field of a saved table",
     "table": "a table: its bytes as they are lent, the buffer and group count that a list of calls leaves",
     "TableTotals": "how many sections and rows a table has: the struct, and the definition that gives it",
     "Place": "where a key stands among records: the enum, and the definition that gives it",
@@ -120,7 +125,7 @@ ONE = {
     "computed": "that the definitions give what the examples expect",
     "input": "the file of an example",
     "expected": "what an example has to give",
-    "exampleRows": "the rows of an example",
+    "example_rows": "the rows of an example",
     "BenchFigure": "a figure of the bench book",
 }
 # numbers that exported calls write out, whose names the interface fixes: elsewhere each is the word for what the number stands for
@@ -151,7 +156,7 @@ def code_words(text):
     for line in text.splitlines():
         if line.startswith("}"):
             inside = False
-        if found := re.match(r'(?:#\[no_mangle\] )?(?:pub )?(?:extern "C" )?fn (\w+)', line):
+        if found := re.match(r"(?:pub )?fn (\w+)", line):
             yield found[1]
         elif found := re.match(r"(?:pub )?(?:struct|enum) (\w+)", line):
             inside = True
@@ -165,19 +170,19 @@ def code_words(text):
 
 def folded(word):
     """A word without what only sets styles apart."""
-    return re.sub(r"[_\-«»]", "", word).lower()
+    return re.sub(r"_lem$|[_\-«»◌]", "", word).lower()
 
 
 def functions(text):
     """The functions of a file of code: name, parameters with their types and whether they are written out, and contract."""
-    for found in re.finditer(r"^(?:#\[no_mangle\]\s+)?(?:pub )?(?:extern \"C\" )?fn (\w+)\(([^)]*)\)(.*?)^\{", text, re.M | re.S):
+    for found in re.finditer(r"^(?:pub )?(?:extern \"C\" )?fn (\w+)\(([^)]*)\)(.*?)^\{", text, re.M | re.S):
         named = re.findall(r"(\w\w+): (&mut |&)?([^,\n]+)", found[2])
         yield found[1], [(word, re.sub(r"^(?:[iu]\d+|usize)$", "a number", kind.strip()), way == "&mut ") for word, way, kind in named], found[3]
 
 
 def spec_parameters(text):
     """The parameters of the definitions in a file; what it imports or declares itself is a constructor in a pattern."""
-    named = {part for word in [*spec_words(text), *modules(text)] for part in word.split("_")}
+    named = {part for word in [*spec_words(text), *modules(text)] for part in word.split("◌")}
     for names in re.findall(r"^use [^{\n]*\{([^}]*)\}", text, re.M):
         named |= {n.strip() for n in names.split(",")}
     words = []
@@ -189,15 +194,21 @@ def spec_parameters(text):
     yield from (w for w in words if w not in named)
 
 
-def clauses(text):
-    """The clauses of a file's contracts, each function's for itself."""
-    return re.findall(r"(?:ensures|requires) ([\w-]+) \{", text)
+def clauses(contract):
+    """The clauses of a contract that says what is answered, what the caller has afterwards or where a part starts."""
+    names = re.findall(r"(?:ensures|requires) (\w+) \{", contract)
+    return names if {"answer", "content", "start"} & set(names) else []
+
+
+def cited(contract, word):
+    return re.search(r"(?<![\w-])" + re.escape(word) + r"(?![\w-])", contract) is not None
 
 
 def library(text):
     """The names that a file takes from the library."""
-    for names in re.findall(r"^(?:ghost )?use (?!Rattle)[\w.]+\.\{([^}]*)\}", text, re.M):
-        yield from (n.strip() for n in names.split(","))
+    for path, names in re.findall(r"^(?:ghost )?use ([\w.-]+)\.\{([^}]*)\}", text, re.M):
+        if path.split(".")[0] != "Rattle" or path.split(".")[1] not in OWN:
+            yield from (n.strip() for n in names.split(","))
 
 
 def modules(text):
@@ -220,9 +231,9 @@ def amount(value):
 
 
 def tied(text, definitions, values):
-    """The words of a file of code that name what a definition of another spelling gives: a function whose contract cites it, or a constant."""
+    """The words of a file of code that name what a definition gives: a function whose contract cites it, or a constant. A plain word is in ONE."""
     for name, _, contract in functions(text):
-        if definitions.get(folded(name), name) != name and definitions[folded(name)] in contract:
+        if "_" in name and folded(name) in definitions and cited(contract, definitions[folded(name)]):
             yield name
     for name, value in re.findall(r"^(?:pub )?const (\w+): \w+ = (.*);", text, re.M):
         if folded(name) in definitions:
@@ -234,7 +245,7 @@ def tied(text, definitions, values):
 def main():
     places, types, taken, bad = collections.defaultdict(list), collections.defaultdict(set), set(), []
     specs = sorted(CRATES.glob("*/specs/**/*.antt"))
-    codes = sorted(f for f in CRATES.glob("*/src/**/*.rt") if f.name != "main.rt")
+    codes = sorted(f for f in CRATES.glob("*/src/**/*.rt") if f.name != "main.rt" and f.parents[1].name != TO_C)
     parameters, definitions, values, apart = set(), {}, {}, set()
     for f in specs:
         text, name = f.read_text(), str(f.relative_to(CRATES))
@@ -263,6 +274,10 @@ def main():
         text, name = f.read_text(), str(f.relative_to(CRATES))
         taken |= set(library(text))
         bad += [f"{name}: {names}: a definition with another name" for names in renamed(text)]
+    calls = {call[0]: call for call in functions((CRATES / "exports" / "src" / "lib.rt").read_text())}
+    for call in functions((CRATES / TO_C / "src" / "lib.rt").read_text()):
+        if calls.get(call[0]) != call:
+            bad.append(f"{call[0]} in {TO_C}/src/lib.rt: not the call of exports with its parameters and clauses")
     one = {folded(word) for word in ONE}
     for word in parameters:
         if not any(name == "a parameter" for _, name in places[folded(word)]):
