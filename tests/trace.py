@@ -24,7 +24,7 @@ def texts(files):
     return "\n".join(f.read_text() for f in files)
 
 
-ALL = texts(f for f in CRATES.rglob("*") if f.suffix in (".rt", ".antt") and "target" not in f.parts)
+ALL = texts(f for f in CRATES.rglob("*") if f.suffix in (".rt", ".antt") and "out" not in f.parts)
 
 
 def find(path):
