@@ -39,12 +39,7 @@ fn minus(r: Refusal) -> i64
 }
 
 // The row count of a patch file, where its columns start, and how many bytes each of its values has.
-pub fn girth_read(
-    file: &[u8],
-    keys_at: &mut u64,
-    values_at: &mut u64,
-    value_width: &mut u64,
-) -> i64
+pub fn girth_read(file: &[u8], keys_at: &mut u64, values_at: &mut u64, value_width: &mut u64) -> i64
     ensures answer { result ≡ returned (λ x. x.count) (file_outcome file.now) }
     ensures key_start { keys_at.new ≡ key_start (kind_of file.now) file.now }
     ensures value_start { values_at.new ≡ value_start (kind_of file.now) file.now }

@@ -448,7 +448,10 @@ fn run_full(rt: &HostRuntime) {
     fill_sections(&mut keys, &mut values, 1024);
     let mut t = [0u8; 65536];
     let mut work = [0u8; 65536];
-    print(rt, word(exports::girth_add(&mut t, 0, &keys, &values, 8, &mut work)));
+    print(
+        rt,
+        word(exports::girth_add(&mut t, 0, &keys, &values, 8, &mut work)),
+    );
     let mut out = [0xC3u8; 65560];
     save_full(rt, &t, &mut out, &mut work);
 }
