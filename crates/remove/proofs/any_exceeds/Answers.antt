@@ -19,7 +19,7 @@ use Rattle.record.proofs.Found.{sound_record_at}
 use Rattle.table.proofs.Bytes.{meaning_record}
 use Rattle.table.proofs.State.{length-sections}
 use Rattle.remove.specs.Remaining.{all_without, exceeds_for, exceeds, total_exceeds}
-use Rattle.remove.proofs.Reducing.{left_by, rows_enough, residues_in_range}
+use Rattle.remove.proofs.Reducing.{left_by, rows_enough}
 use Rattle.remove.proofs.any_exceeds.Goals as goal
 
 by-own-rows : (t : Section) → exceeds t ≡ exceeds_for t.count t
@@ -50,9 +50,6 @@ module _ (t : List ℕ) (g : ℕ) (ps : List Section) (i : ℕ) (sd : T (sound t
       ∙ ap exceeds (meaning_record (left_by ps (meaning held)))
       ∙ ap (λ (r : Record). test ps (meaning r)) read)
 
-pub loop-i-init : goal.loop-i-init
-loop-i-init c = (omega arith, refl)
-
 pub get-held-requires : goal.get-held-requires
 get-held-requires c =
     omega (arith, (sound_parts c.args.table.now c.args.g c.requires.t).0, c.loop-i-test.true)
@@ -67,19 +64,6 @@ reduce-x-requires c =
       n_bound = rw c.get-held.ensures (rows_enough a.table.now a.g q.t (sections a.patch.now a.n) q.n_value c.loop-i.i c.loop-i-test.true);
     }
 
-pub exceeds_for-requires : goal.exceeds_for-requires
-exceeds_for-requires c = residues_in_range (left_by (sections c.args.patch.now c.args.n) (meaning c.get-held.result)) c.reduce-x.ensures
-
-pub returns-then-exceeds_for : goal.returns-then-exceeds_for
-returns-then-exceeds_for c =
-    let a = c.args in
-    let ps = sections a.patch.now a.n in
-    let i = c.loop-i.i in
-    let h = c.loop-i-test.true in
-    scan_found _ _ _ c.loop-i.invariant.1 (meaning (record_at a.table.now (i * 64))) (in_list a.table.now a.g ps i c.requires.t h)
-    (tested a.table.now a.g ps i c.requires.t h c.get-held.ensures c.reduce-x.ensures c.exceeds_for.ensures) c.if-exceeds_for.true
-    ∙ sym (total-tested (sections a.table.now a.g) ps)
-
 pub loop-i-preserved : goal.loop-i-preserved
 loop-i-preserved c =
     let a = c.args in
@@ -90,6 +74,16 @@ loop-i-preserved c =
       scan_next _ _ _ c.loop-i.invariant.1 (meaning (record_at a.table.now (i * 64))) (in_list a.table.now a.g ps i c.requires.t h)
           (tested a.table.now a.g ps i c.requires.t h c.get-held.ensures c.reduce-x.ensures c.exceeds_for.ensures) c.if-exceeds_for.false,
     )
+
+pub returns-then-exceeds_for : goal.returns-then-exceeds_for
+returns-then-exceeds_for c =
+    let a = c.args in
+    let ps = sections a.patch.now a.n in
+    let i = c.loop-i.i in
+    let h = c.loop-i-test.true in
+    scan_found _ _ _ c.loop-i.invariant.1 (meaning (record_at a.table.now (i * 64))) (in_list a.table.now a.g ps i c.requires.t h)
+    (tested a.table.now a.g ps i c.requires.t h c.get-held.ensures c.reduce-x.ensures c.exceeds_for.ensures) c.if-exceeds_for.true
+    ∙ sym (total-tested (sections a.table.now a.g) ps)
 
 pub returns : goal.returns
 returns c =

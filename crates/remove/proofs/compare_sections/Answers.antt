@@ -3,21 +3,24 @@ use Prim.Native.Nat.{ℕ, ◌+◌, ◌*◌, ◌≤◌, ◌<◌}
 use mathlib.Core.Path.{◌≡◌, refl, sym, ap, ap₂, ◌∙◌, subst}
 use mathlib.Core.Bool.{Bool, cond, ◌||◌}
 use mathlib.Core.List.{List}
+use mathlib.Core.Option.{Option}
 use native.Mathlib.Omega.{arith}
+use lib.Dec.{T}
 use lib.ListN.{length, get_or, drop}
 use Rattle.refusal.specs.Outcome.{accepted, refused}
 use Rattle.lists.specs.Lists.{any_of}
 use Rattle.lists.proofs.Scanning.{Undecided, scan_found, scan_next, scan_end, Noted, note_next, note_end}
 use Rattle.record.specs.Layout.{record_at}
+use Rattle.record.specs.Sound.{sound}
 use Rattle.record.specs.Section.{Section, meaning, sections, find}
 use Rattle.record.proofs.Laws.{get_d_sections}
 use Rattle.record.proofs.Sound.{sound_parts}
 use Rattle.table.proofs.State.{length-sections}
 use Rattle.remove.specs.Remaining.{has_fewer, has_lower, raises_top}
 use Rattle.remove.specs.declared.Standing.{Standing}
+use Rattle.remove.specs.declared.Standing.TheVariants.{Enough}
 use Rattle.remove.specs.Steps.{Stands, compared_outcome}
 use Rattle.remove.proofs.compare_sections.Goals as goal
-use Rattle.remove.proofs.compare_sections.Goals.{After-compare_section, After-loop-i, Start}
 
 abbrev fewer : List Section → Section → Bool
 fewer ts p = has_fewer (find p.key ts) p
@@ -25,50 +28,28 @@ fewer ts p = has_fewer (find p.key ts) p
 abbrev lower : List Section → Section → Bool
 lower ts p = has_lower (find p.key ts) p
 
--- where the section at i was compared
-module _ (a : After-compare_section) where
-  abbrev ts : List Section
-  ts = sections a.args.table.now a.args.g
+-- where x is how a section stands
+stands_as : (o : Option Section) (t : Section) {r x : Standing} → r ≡ x → Stands o t r → Stands o t x
+stands_as o t e h = subst (λ (y : Standing). Stands o t y) e h
 
-  abbrev ps : List Section
-  ps = sections a.args.patch.now a.args.n
-
-  abbrev i : ℕ
-  i = a.loop-i.i
-
+-- the section i of a patch of n sections in s
+module _ (s : List ℕ) (n i : ℕ) (sd : T (sound s n)) (h : i < n) where
   abbrev here : Section
-  here = meaning (record_at a.args.patch.now (i * 64))
+  here = meaning (record_at s (i * 64))
 
-  in_list : i < length ps
-  in_list = rw (length-sections a.args.patch.now a.args.n) a.loop-i-test.true
+  in_list : i < length (sections s n)
+  in_list = rw (length-sections s n) h
 
-  is-here : get_or ps i here ≡ here
-  is-here =
-      get_d_sections a.args.patch.now a.args.n (sound_parts a.args.patch.now a.args.n a.requires.t_2).0 i (record_at a.args.patch.now (i * 64))
-      a.loop-i-test.true
+  is-here : get_or (sections s n) i here ≡ here
+  is-here = get_d_sections s n (sound_parts s n sd).0 i (record_at s (i * 64)) h
 
-  -- x is how it stands
-  stands_here : (x : Standing) → a.compare_section.result ≡ x → Stands (find here.key ts) here x
-  stands_here x e = subst (λ (y : Standing). Stands (find here.key ts) here y) e a.compare_section.ensures
-
-  undecided : Undecided (fewer ts) ps i
-  undecided = a.loop-i.invariant.1
-
-  noted : Noted (lower ts) ps i a.loop-i.any_too_low
-  noted = a.loop-i.invariant.2
-
--- all were compared: none lacks rows, and f is what was noted of the tops
-module _ (c : After-loop-i) where
-  abbrev patched : List ℕ
-  patched = c.args.patch.now
-
-  answered : {f : Bool} → c.loop-i.any_too_low ≡ f → cond f (refused 21) (accepted tt) ≡ compared_outcome (sections c.args.table.now c.args.g) (sections patched c.args.n)
-  answered e =
-      let l = c.loop-i in
-      let all : length (sections patched c.args.n) ≤ l.i = omega (arith, length-sections patched c.args.n, c.loop-i-test.false) in
-      let f = scan_end (fewer (sections c.args.table.now c.args.g)) (sections patched c.args.n) l.i l.invariant.1 all in
-      let t = note_end (lower (sections c.args.table.now c.args.g)) (sections patched c.args.n) l.i l.any_too_low l.invariant.2 all in
-      sym (ap₂ (λ (a b : Bool). cond a (refused 20) (cond b (refused 21) (accepted tt))) (sym f) (t ∙ e))
+-- all were compared with the sections ts: none lacks rows, and f is what was noted of the tops
+answered : (ts : List Section) (s : List ℕ) (n i : ℕ) {noted f : Bool} → n ≤ i → Undecided (fewer ts) (sections s n) i → Noted (lower ts) (sections s n) i noted → noted ≡ f
+    → cond f (refused 21) (accepted tt) ≡ compared_outcome ts (sections s n)
+answered ts s n i {noted} h u t e =
+    let ps = sections s n in
+    let all : length ps ≤ i = omega (arith, length-sections s n) in
+    sym (ap₂ (λ (a b : Bool). cond a (refused 20) (cond b (refused 21) (accepted tt))) (sym (scan_end (fewer ts) ps i u all)) (note_end (lower ts) ps i noted t all ∙ e))
 
 pub loop-i-init : goal.loop-i-init
 loop-i-init c = (omega arith, refl, refl)
@@ -79,20 +60,40 @@ compare_section-requires c =
 
 pub returns-in_default : goal.returns-in_default
 returns-in_default c =
-    let e = scan_found (fewer (ts (goal.at.returns-in_default c).After-compare_section)) (ps (goal.at.returns-in_default c).After-compare_section) (i (goal.at.returns-in_default c).After-compare_section) (undecided (goal.at.returns-in_default c).After-compare_section) (here (goal.at.returns-in_default c).After-compare_section) (in_list (goal.at.returns-in_default c).After-compare_section) (ap (fewer (ts (goal.at.returns-in_default c).After-compare_section)) (is-here (goal.at.returns-in_default c).After-compare_section)) (stands_here (goal.at.returns-in_default c).After-compare_section _ c.in_default.is) in
-    ap (λ (b : Bool). cond b (refused 20) (cond (raises_top (ts (goal.at.returns-in_default c).After-compare_section) (ps (goal.at.returns-in_default c).After-compare_section)) (refused 21) (accepted tt))) e
+    let a = c.args in
+    let ts = sections a.table.now a.g in
+    let s = a.patch.now in
+    let ps = sections s a.n in
+    let i = c.loop-i.i in
+    let h = c.loop-i-test.true in
+    ap (λ (b : Bool). cond b (refused 20) (cond (raises_top ts ps) (refused 21) (accepted tt)))
+    (scan_found (fewer ts) ps i c.loop-i.invariant.1 (here s a.n i c.requires.t_2 h) (in_list s a.n i c.requires.t_2 h) (ap (fewer ts) (is-here s a.n i c.requires.t_2 h))
+    (stands_as (find (here s a.n i c.requires.t_2 h).key ts) (here s a.n i c.requires.t_2 h) c.in_default.is c.compare_section.ensures))
 
 pub loop-i-preserved : goal.loop-i-preserved
 loop-i-preserved c =
-    let h = stands_here (goal.at.loop-i-preserved c).After-compare_section _ c.in-Enough.is in (
+    let a = c.args in
+    let ts = sections a.table.now a.g in
+    let s = a.patch.now in
+    let ps = sections s a.n in
+    let i = c.loop-i.i in
+    let h = c.loop-i-test.true in
+    let d = here s a.n i c.requires.t_2 h in
+    let l = in_list s a.n i c.requires.t_2 h in
+    let e = is-here s a.n i c.requires.t_2 h in
+    let w : Stands (find d.key ts) d (Enough c.in-Enough.too_low c.in-Enough.at) = stands_as (find d.key ts) d c.in-Enough.is c.compare_section.ensures in (
       omega (arith, c.loop-i-test.true),
-      scan_next (fewer (ts (goal.at.loop-i-preserved c).After-compare_section)) (ps (goal.at.loop-i-preserved c).After-compare_section) (i (goal.at.loop-i-preserved c).After-compare_section) (undecided (goal.at.loop-i-preserved c).After-compare_section) (here (goal.at.loop-i-preserved c).After-compare_section) (in_list (goal.at.loop-i-preserved c).After-compare_section) (ap (fewer (ts (goal.at.loop-i-preserved c).After-compare_section)) (is-here (goal.at.loop-i-preserved c).After-compare_section)) h.0,
-      ap (λ (f : Bool). f || any_of (lower (ts (goal.at.loop-i-preserved c).After-compare_section)) (drop (i (goal.at.loop-i-preserved c).After-compare_section + 1) (ps (goal.at.loop-i-preserved c).After-compare_section))) c.either-any_too_low.ensures
-          ∙ note_next (lower (ts (goal.at.loop-i-preserved c).After-compare_section)) (ps (goal.at.loop-i-preserved c).After-compare_section) (i (goal.at.loop-i-preserved c).After-compare_section) c.loop-i.any_too_low (noted (goal.at.loop-i-preserved c).After-compare_section) (here (goal.at.loop-i-preserved c).After-compare_section) (in_list (goal.at.loop-i-preserved c).After-compare_section) (ap (lower (ts (goal.at.loop-i-preserved c).After-compare_section)) (is-here (goal.at.loop-i-preserved c).After-compare_section) ∙ h.1),
+      scan_next (fewer ts) ps i c.loop-i.invariant.1 d l (ap (fewer ts) e) w.0,
+      ap (λ (f : Bool). f || any_of (lower ts) (drop (i + 1) ps)) c.either-any_too_low.ensures
+          ∙ note_next (lower ts) ps i c.loop-i.any_too_low c.loop-i.invariant.2 d l (ap (lower ts) e ∙ w.1),
     )
 
 pub returns-then-any_too_low : goal.returns-then-any_too_low
-returns-then-any_too_low c = answered (goal.at.returns-then-any_too_low c).After-loop-i c.if-any_too_low.true
+returns-then-any_too_low c =
+    let a = c.args in
+    answered (sections a.table.now a.g) a.patch.now a.n c.loop-i.i c.loop-i-test.false c.loop-i.invariant.1 c.loop-i.invariant.2 c.if-any_too_low.true
 
 pub returns : goal.returns
-returns c = answered (goal.at.returns c).After-loop-i c.if-any_too_low.false
+returns c =
+    let a = c.args in
+    answered (sections a.table.now a.g) a.patch.now a.n c.loop-i.i c.loop-i-test.false c.loop-i.invariant.1 c.loop-i.invariant.2 c.if-any_too_low.false

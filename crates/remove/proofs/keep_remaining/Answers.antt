@@ -9,7 +9,7 @@ use Rattle.record.specs.Layout.{record_at}
 use Rattle.record.specs.Sound.{sound}
 use Rattle.record.specs.Section.{Section, meaning, record_of, sections}
 use Rattle.record.proofs.Found.{sound_record_at}
-use Rattle.remove.proofs.Reducing.{left_by, rows_enough, Kept, none_kept, kept-length, all_kept, kept-fewer, next-within, next_as_was, next_place, one_kept, one_gone}
+use Rattle.remove.proofs.Reducing.{left_by, rows_enough, Kept, none_kept, kept-fewer, next-within, next_as_was, next_place, one_kept, one_gone}
 use Rattle.remove.proofs.keep_remaining.Goals as goal
 use Rattle.remove.proofs.keep_remaining.Goals.{else-x-gt0, then-x-gt0}
 
@@ -52,9 +52,3 @@ loop-i-preserved c =
       | then-x-gt0 w ↦ one_kept c.requires.t c.loop-i.invariant c.loop-i-test.true e w.if-x-gt0.true (w.table-is ∙ w.put.ensures.0) w.kept-is
       | else-x-gt0 w ↦ one_gone c.requires.t c.loop-i.invariant c.loop-i-test.true e w.if-x-gt0.false w.table-is w.kept-is
     ]
-
-pub shape_of-table : goal.shape_of-table
-shape_of-table c = kept-length c.requires.t c.loop-i.invariant
-
-pub returns : goal.returns
-returns c = all_kept c.requires.t c.loop-i.invariant c.loop-i-test.false

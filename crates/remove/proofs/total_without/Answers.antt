@@ -3,7 +3,7 @@ use Prim.Native.Nat.{◌-◌, ◌^◌, ◌≤◌, ◌<◌}
 use mathlib.Core.Path.{◌≡◌, ap, ap₂, ◌∙◌}
 use native.Mathlib.Omega.{arith}
 use borrow.Author.Rules.{rules}
-use borrow.Author.Tests.{le-leb, lt-leb}
+use borrow.Author.Tests.{le-leb}
 use lib.IntN.{◌-ℤ◌}
 use Rattle.level.specs.Carry.{split_of, total_of}
 use Rattle.record.proofs.Parts.{sound_record_parts}
@@ -17,9 +17,6 @@ counts-fit c = search rules
 
 level-within : (c : Start) → c.args.r.top - c.args.d ≤ 52
 level-within c = omega (arith, (sound_record_parts c.args.r c.requires.t).top)
-
-pub returns-then-r-d : goal.returns-then-r-d
-returns-then-r-d c = let a = c.args in rw (lt-leb a.d a.r.top c.if-r-d.true) c.nothing.ensures
 
 pub split_in-requires : goal.split_in-requires
 split_in-requires c = level-within (goal.at.split_in-requires c).Start
