@@ -25,7 +25,7 @@ use Rattle.checkpoint.proofs.Loading.{load_untouched}
 use Rattle.checkpoint.proofs.Reloading.{saved_fields, saved_outcome}
 use Rattle.history.specs.Calls.{replaced}
 use Rattle.history.specs.Run.{Store, after, after_load}
-use Rattle.history.specs.Demand3.{table, used, sections_in}
+use Rattle.history.specs.Demand3.{used, sections_in}
 use Rattle.history.specs.Older.{with_finest, faded, older_file}
 use Rattle.history.proofs.Faded.{faded_option, Present, faded-rising, find-faded}
 use Rattle.history.proofs.Shelf.{loaded_is}

@@ -29,7 +29,7 @@ use Rattle.finish.specs.Exact.{exactness_of}
 use Rattle.totals.specs.Totals.{row_total, table_totals}
 use Rattle.history.specs.Calls.{Question, sum, figure, line, exactness, totals, replaced}
 use Rattle.history.specs.Run.{Store, after, after_add, after_merge, sum_is, figure_is, line_is, exactness_is, ask_table}
-use Rattle.history.specs.Demand3.{table, used, sections_in}
+use Rattle.history.specs.Demand3.{used, sections_in}
 use Rattle.history.specs.Older.{with_finest, faded, none_older, but_exactness}
 use Rattle.history.proofs.Faded.{faded_option, Present, find-faded, merged-faded, merged-present, added-faded, worked_same, found_same}
 

@@ -6,7 +6,7 @@ use lib.IntN.{ℤ, pos, negsuc, neg_ℤ, ◌+ℤ◌, ◌-ℤ◌, ◌*ℤ◌, +�
 use Rattle.level.specs.Carry.{carry_base, carry_of, residue_of, split_of, total_of}
 use Rattle.level.specs.declared.SplitTotal.{SplitTotal}
 use Rattle.integers.proofs.Laws.{+ℤ-*ℤ, neg-add}
-use Rattle.integers.proofs.Diff.{◌⊝◌, ints, by_parts, +ℤ-interchange}
+use Rattle.integers.proofs.Diff.{ints, by_parts, +ℤ-interchange}
 
 pub residue_lt : (z : ℤ) → residue_of z < carry_base
 residue_lt (pos n) = omega arith

@@ -3,7 +3,6 @@ use Prim.Native.Nat.{ℕ, ◌+◌, ◌*◌, ◌≤◌}
 use mathlib.Core.Path.{◌≡◌, sym, ap, ◌∙◌, subst}
 use mathlib.Core.List.{List}
 use lib.Dec.{T}
-use borrow.Author.Rules.{rules}
 use Rattle.record.specs.declared.Record.{Record}
 use Rattle.record.specs.Layout.{record_at}
 use Rattle.record.specs.Sound.{sound_record}

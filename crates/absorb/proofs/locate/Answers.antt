@@ -1,7 +1,6 @@
 -- `locate`: a key that stands at the hint stands nowhere else.
 use mathlib.Core.Path.{sym, ◌∙◌}
 use native.Mathlib.Omega.{arith}
-use borrow.Author.Rules.{rules}
 use Rattle.record.specs.Layout.{records}
 use Rattle.record.specs.Keys.{record_keys}
 use Rattle.record.proofs.Laws.{get_d_keys, length-keys}

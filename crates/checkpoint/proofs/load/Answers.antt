@@ -1,12 +1,11 @@
 -- `load`: 1, 2, 3, 19, 16 and 7 are tested in this order, and then the records are copied. The idea: past each test its condition is known not to hold, so each
 -- return cites the law of its own number (`load-1` to `load-accepts`).
-use Prim.Native.Nat.{ℕ, ◌*◌, ◌≤◌}
+use Prim.Native.Nat.{◌*◌, ◌≤◌}
 use mathlib.Core.Path.{◌≡◌, sym, ap, ◌∙◌}
 use mathlib.Core.Bool.{true, false}
-use mathlib.Core.List.{List, ◌++◌}
 use native.Mathlib.Omega.{arith}
-use borrow.Author.Tests.{not-true, not-false, eq-eqb, ne_eqb}
-use lib.ListN.{length, take, drop}
+use borrow.Author.Tests.{eq-eqb, ne_eqb}
+use lib.ListN.{length}
 use Rattle.codec.specs.Bytes.{number}
 use Rattle.trailer.specs.Trailer.{ends_in}
 use Rattle.refusal.specs.Outcome.{accepted}
@@ -15,9 +14,7 @@ use Rattle.checkpoint.specs.Saved.{table_mark, group_count, wrong_layout}
 use Rattle.checkpoint.specs.Calls.{load_outcome}
 use Rattle.checkpoint.proofs.Records.{inside}
 use Rattle.checkpoint.proofs.Loading.{FileLength, load-1, load-2, load-3, load-19, load-16, load-7, load_accepts, load_untouched, load-leaves}
-use borrow.Author.Rules.{rules}
 use Rattle.checkpoint.proofs.load.Goals as goal
-use mathlib.Core.Bool.{not}
 use Rattle.checkpoint.proofs.load.Goals.{After-is_sound, After-trailer_field-g, Else-file-lt-TRAILER_LENGTH, Else-not-is_sound, Else-table-g, Else-trailer_field-ne-TABLE_MARK, Else-wrong_layout, Start}
 
 -- past the first two tests the file has a trailer

@@ -13,7 +13,6 @@ use Rattle.record.specs.Sound.{sound}
 use Rattle.checkpoint.specs.Saved.{table_mark}
 use Rattle.checkpoint.proofs.Records.{inside}
 use Rattle.checkpoint.proofs.Saving.{save-7, save-18, save-16, save_accepts, save_untouched, save-leaves, saved_set}
-use borrow.Author.Rules.{rules}
 use Rattle.checkpoint.proofs.save.Goals as goal
 use mathlib.Core.Path.{ap}
 use mathlib.Core.Bool.{not}

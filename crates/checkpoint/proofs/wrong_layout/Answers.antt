@@ -7,7 +7,6 @@ use native.Mathlib.Omega.{arith}
 use borrow.Author.Tests.{eq-eqb, ne_eqb}
 use lib.Dec.{eqb}
 use lib.ListN.{length}
-use borrow.Author.Rules.{rules}
 use Rattle.checkpoint.specs.Saved.{saved_length, group_count, record_distance, zero_field, wrong_layout}
 use Rattle.checkpoint.proofs.wrong_layout.Goals as goal
 

@@ -3,7 +3,6 @@ use mathlib.Core.Path.{◌≡◌, ap, ◌∙◌}
 use native.Mathlib.Omega.{arith}
 use mir.Syntax.{w64}
 use mir.Val.{to_z}
-use borrow.Author.Rules.{rules}
 use Rattle.codec.proofs.i64_at.Goals as goal
 
 pub returns-then-x-lt9223372036854775808 : goal.returns-then-x-lt9223372036854775808

@@ -6,7 +6,6 @@ use lib.IntN.{nat_abs}
 use mir.Syntax.{w64}
 use Rattle.codec.specs.Bytes.{bytes}
 use Rattle.integers.proofs.Width.{BelowZero, FromZero, below-zero, from_zero}
-use borrow.Author.Rules.{rules}
 use Rattle.codec.proofs.put_i64.Goals as goal
 use Rattle.codec.proofs.put_i64.Goals.{Else-x-lt0, Then-x-lt0}
 

@@ -1,5 +1,4 @@
 -- `put_u32` writes a field of four bytes; its equation is asked by itself, so that a wrong width shows.
-use borrow.Author.Rules.{rules}
 use Rattle.codec.proofs.put_u32.Goals as goal
 
 pub returns : goal.returns

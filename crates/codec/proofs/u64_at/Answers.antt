@@ -1,5 +1,4 @@
 use native.Mathlib.Omega.{arith}
-use borrow.Author.Rules.{rules}
 use Rattle.codec.proofs.Laws.{number_at-add}
 use Rattle.codec.proofs.u64_at.Goals as goal
 

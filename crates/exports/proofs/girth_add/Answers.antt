@@ -6,8 +6,6 @@ use mir.Syntax.{w64}
 use mir.Val.{SFits}
 use mir.ValLaws.{to_z-of_z}
 use Rattle.columns.specs.declared.Kind.{Kind}
-use Rattle.table.specs.Answer.{table_answer}
-use Rattle.table.specs.Calls.{add_outcome, add_leaves, cleared}
 use Rattle.exports.specs.Calls.{returns_count}
 use Rattle.exports.specs.Width.{kind_of_width, width_kind, add_of_width, add_of_width_leaves}
 use Rattle.exports.proofs.Answers.{add-groups}

@@ -6,9 +6,6 @@ use mir.Syntax.{w64}
 use mir.Val.{SFits}
 use mir.ValLaws.{to_z-of_z}
 use Rattle.columns.specs.declared.Kind.{Kind}
-use Rattle.table.specs.Answer.{table_answer}
-use Rattle.table.specs.Calls.{cleared}
-use Rattle.remove.specs.Calls.{remove_outcome, remove_leaves}
 use Rattle.exports.specs.Calls.{returns_count}
 use Rattle.exports.specs.Width.{kind_of_width, width_kind, remove_of_width, remove_of_width_leaves}
 use Rattle.exports.proofs.Answers.{remove-groups}

@@ -1,6 +1,5 @@
 use mathlib.Core.Path.{sym, ap}
 use Rattle.limbs.specs.Side.{side_number}
-use borrow.Author.Rules.{rules}
 use Rattle.exports.proofs.side_number.Goals as goal
 
 pub returns-in-Less : goal.returns-in-Less

@@ -1,5 +1,4 @@
 use Rattle.finish.proofs.Whole.{stacked_same, last_lt}
-use borrow.Author.Rules.{rules}
 use Rattle.finish.proofs.biased_limbs.Goals as goal
 
 pub returns : goal.returns

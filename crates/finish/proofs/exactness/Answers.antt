@@ -1,5 +1,4 @@
 use mathlib.Core.Path.{◌∙◌}
-use borrow.Author.Rules.{rules}
 use Rattle.finish.specs.Exact.{exactness_of}
 use Rattle.finish.proofs.Outcomes.{finishing_by}
 use Rattle.finish.proofs.exactness.Goals as goal

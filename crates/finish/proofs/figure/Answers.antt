@@ -1,7 +1,6 @@
 use Rattle.finish.proofs.Outcomes.{found_sound, finishing_by}
 use mathlib.Core.Path.{◌∙◌}
 use Rattle.finish.specs.Finish.{figure_of}
-use borrow.Author.Rules.{rules}
 use Rattle.finish.proofs.figure.Goals as goal
 
 pub record_figure-requires : goal.record_figure-requires

@@ -2,7 +2,6 @@ use mathlib.Core.Path.{sym, ap, ◌∙◌, subst}
 use Rattle.finish.specs.Answer.{sum_answer}
 use Rattle.finish.specs.Steps.{FiniteSum, figure_by}
 use Rattle.finish.specs.declared.SectionSum.{SectionSum}
-use borrow.Author.Rules.{rules}
 use Rattle.finish.proofs.figure_by.Goals as goal
 
 pub mill_figure-requires : goal.mill_figure-requires

@@ -1,7 +1,6 @@
 use Rattle.finish.proofs.Hundredths.{figure-beyond, i32_lt, figure-minus, figure-plus}
 use mir.Syntax.{w32}
 use Rattle.integers.proofs.Width.{minus_fits}
-use borrow.Author.Rules.{rules}
 use Rattle.finish.proofs.figure_of_size.Goals as goal
 
 pub returns-then-n-gt-LARGEST_FIGURE : goal.returns-then-n-gt-LARGEST_FIGURE

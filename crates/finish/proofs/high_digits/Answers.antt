@@ -6,7 +6,6 @@ use Rattle.integers.proofs.Width.{bits_back}
 use Rattle.level.specs.Carry.{carry_base}
 use Rattle.finish.specs.Biased.{biased_carry}
 use Rattle.finish.proofs.Whole.{high_lt, high_same}
-use borrow.Author.Rules.{rules}
 use Rattle.finish.proofs.high_digits.Goals as goal
 
 pub returns : goal.returns

@@ -1,7 +1,6 @@
 use Rattle.finish.proofs.Outcomes.{found_sound, finishing_by}
 use mathlib.Core.Path.{◌∙◌}
 use Rattle.finish.specs.Finish.{line_of}
-use borrow.Author.Rules.{rules}
 use Rattle.finish.proofs.line.Goals as goal
 
 pub record_line-requires : goal.record_line-requires

@@ -2,7 +2,6 @@ use mathlib.Core.Path.{sym, ap, ◌∙◌, subst}
 use Rattle.finish.specs.Answer.{sum_answer}
 use Rattle.finish.specs.Steps.{FiniteSum, line_by}
 use Rattle.finish.specs.declared.SectionSum.{SectionSum}
-use borrow.Author.Rules.{rules}
 use Rattle.finish.proofs.line_by.Goals as goal
 
 pub line_of_double-requires : goal.line_of_double-requires

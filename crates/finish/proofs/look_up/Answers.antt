@@ -11,7 +11,6 @@ use lib.Dec.{T}
 use Rattle.record.specs.Sound.{sound, sound_record}
 use Rattle.record.specs.Section.{meaning, sections, find}
 use Rattle.record.proofs.Sound.{sound_parts}
-use borrow.Author.Rules.{rules}
 use Rattle.finish.proofs.look_up.Goals as goal
 use mathlib.Core.Bool.{not}
 use Rattle.finish.proofs.look_up.Goals.{Else-not-is_sound, In-Index}

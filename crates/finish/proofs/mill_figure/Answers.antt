@@ -11,7 +11,6 @@ use Rattle.finish.specs.Figure.{away_from_zero, mill_figure, beyond}
 use Rattle.limbs.specs.Nearest.{nearest_by}
 use Rattle.finish.proofs.Fraction.{not_nan, near-figure, far_figure}
 use Rattle.level.proofs.Double.{significand-lt}
-use borrow.Author.Rules.{rules}
 use Rattle.finish.proofs.mill_figure.Goals as goal
 use Rattle.finish.proofs.mill_figure.Goals.{Start}
 

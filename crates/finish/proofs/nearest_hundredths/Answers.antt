@@ -7,7 +7,6 @@ use lib.Pow.{shr_le}
 use Rattle.limbs.specs.Nearest.{rounded}
 use Rattle.finish.specs.Figure.{away_from_zero}
 use Rattle.finish.proofs.Hundredths.{hundredths_zero, hundredths_round}
-use borrow.Author.Rules.{rules}
 use Rattle.finish.proofs.nearest_hundredths.Goals as goal
 
 pub returns-then-r-gt62 : goal.returns-then-r-gt62

@@ -1,6 +1,5 @@
 use mathlib.Core.Path.{sym, ap}
 use Rattle.finish.specs.Side.{opposite_side}
-use borrow.Author.Rules.{rules}
 use Rattle.finish.proofs.opposite_side.Goals as goal
 
 pub returns-in-Less : goal.returns-in-Less

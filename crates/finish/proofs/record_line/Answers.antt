@@ -1,5 +1,4 @@
 use mathlib.Core.Path.{◌≡◌, sym, ap, ◌∙◌, subst}
-use borrow.Author.Rules.{rules}
 use Rattle.record.specs.Section.{meaning, kept}
 use Rattle.finish.specs.Answer.{sum_answer, line_answer}
 use Rattle.finish.specs.Steps.{FiniteSum, line_by}

@@ -3,7 +3,6 @@ use mathlib.Core.Path.{ap, ◌∙◌}
 use Rattle.record.specs.Section.{meaning}
 use Rattle.finish.specs.Finish.{sum_of}
 use Rattle.finish.specs.Answer.{sum_answer}
-use borrow.Author.Rules.{rules}
 use Rattle.finish.proofs.sum.Goals as goal
 
 pub record_sum-requires : goal.record_sum-requires

@@ -1,5 +1,4 @@
 use Rattle.finish.proofs.Sums.{plain_number, negative-number, bits-large, bits-negative, bits_positive}
-use borrow.Author.Rules.{rules}
 use Rattle.finish.proofs.sum_of_bits.Goals as goal
 
 pub returns-then-unsigned : goal.returns-then-unsigned

@@ -1,6 +1,5 @@
 -- `block_top` looks up the field itself: a number is its part and the remainder.
 use native.Mathlib.Omega.{arith}
-use borrow.Author.Rules.{rules}
 use Rattle.level.proofs.block_top.Goals as goal
 
 pub returns : goal.returns

@@ -8,7 +8,6 @@ use mathlib.Core.Bool.{true, false}
 use lib.Ieee.Nearest.{closest}
 use Rattle.level.specs.Cut.{rest_of, rounded_up}
 use Rattle.level.proofs.Near.{closest_fits}
-use borrow.Author.Rules.{rules}
 use Rattle.level.proofs.cut_at.Goals as goal
 
 -- the shifted units, and the two sides of the test

@@ -3,7 +3,6 @@ use mathlib.Core.Path.{sym, ap, ap₂, ◌∙◌}
 use Prim.Native.Nat.{◌+◌}
 use native.Mathlib.Omega.{arith}
 use lib.Count.{count_trailing_zeros, trailing_le}
-use borrow.Author.Rules.{rules}
 use Rattle.level.proofs.Finest.{finest-zero, finest_trailing}
 use Rattle.level.proofs.finest_power.Goals as goal
 

@@ -1,5 +1,4 @@
 -- `is_finite`: the exponent field is not all ones.
-use borrow.Author.Rules.{rules}
 use Rattle.level.proofs.is_finite.Goals as goal
 
 pub returns : goal.returns

@@ -4,7 +4,6 @@ use Prim.Native.Nat.{ℕ, ◌-◌}
 use native.Mathlib.Omega.{arith}
 use lib.Bits.{bit_and, and_mask}
 use lib.Pow.{pow_pos}
-use borrow.Author.Rules.{rules}
 use Rattle.level.proofs.last_digits.Goals as goal
 
 pub overflow_sub-result : goal.overflow_sub-result

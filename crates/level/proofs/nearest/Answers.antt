@@ -4,7 +4,6 @@ use mathlib.Core.Path.{◌≡◌, sym, ap, ap₂, ◌∙◌}
 use native.Mathlib.Omega.{arith}
 use lib.Pow.{pow_pos, pow_mono}
 use lib.Ieee.Nearest.{closest}
-use borrow.Author.Rules.{rules}
 use Rattle.level.proofs.Near.{closest-one, closest_carry}
 use Rattle.level.proofs.nearest.Goals as goal
 

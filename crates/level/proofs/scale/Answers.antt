@@ -1,7 +1,6 @@
 -- `scale` is the exponent field less 1, and 0 for a subnormal.
 use Prim.Native.Nat.{ℕ, ◌-◌}
 use mathlib.Core.Path.{sym, ap, ◌∙◌}
-use borrow.Author.Rules.{rules}
 use Rattle.level.proofs.scale.Goals as goal
 
 pub returns-then-e-eq0 : goal.returns-then-e-eq0

@@ -1,7 +1,6 @@
 -- `shift` is the top's power less the significand's.
 use native.Mathlib.Omega.{arith}
 use Rattle.level.proofs.Top.{top-le, top-place}
-use borrow.Author.Rules.{rules}
 use Rattle.level.proofs.shift.Goals as goal
 
 pub overflow_mul-result : goal.overflow_mul-result

@@ -2,7 +2,6 @@
 use mathlib.Core.Path.{sym, ap, ◌∙◌}
 use Prim.Native.Nat.{ℕ, ◌^◌}
 use native.Mathlib.Omega.{arith}
-use borrow.Author.Rules.{rules}
 use lib.Bits.{bit_or, or_shifted_r}
 use Rattle.level.specs.Double.{fraction}
 use Rattle.level.proofs.Double.{significand_subnormal, significand_normal}

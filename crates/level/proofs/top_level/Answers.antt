@@ -3,7 +3,6 @@ use mathlib.Core.Path.{sym, ◌∙◌}
 use native.Mathlib.Omega.{arith}
 use Rattle.level.proofs.Top.{top_normal, top_small, top_subnormal}
 use borrow.Author.Rules.{rules}
-use borrow.Author.Tests.{ltb-true}
 use Rattle.level.proofs.top_level.Goals as goal
 
 pub usual_top-requires : goal.usual_top-requires

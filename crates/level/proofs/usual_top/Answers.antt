@@ -1,6 +1,5 @@
 -- `usual_top` looks up the field itself: what is above 996 is below 64.
 use native.Mathlib.Omega.{arith}
-use borrow.Author.Rules.{rules}
 use Rattle.level.proofs.usual_top.Goals as goal
 
 pub returns : goal.returns

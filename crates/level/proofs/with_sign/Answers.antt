@@ -1,7 +1,6 @@
 -- `with_sign` negates a size that fits an i64.
 use mathlib.Core.Path.{sym, ap, ◌∙◌}
 use mathlib.Core.Bool.{Bool}
-use borrow.Author.Rules.{rules}
 use mir.Syntax.{w64}
 use mir.ValLaws.{to_z_pos}
 use Rattle.level.specs.Double.{signed}

@@ -1,7 +1,6 @@
 use Prim.Native.Nat.{◌^◌}
 use lib.ListN.{get_or}
 use Rattle.limbs.proofs.Addition.{difference_same}
-use borrow.Author.Rules.{rules}
 use Rattle.limbs.proofs.difference_with_bias.Goals as goal
 
 pub returns : goal.returns

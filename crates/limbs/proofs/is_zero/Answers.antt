@@ -1,6 +1,5 @@
 use lib.ListN.{get_or}
 use Rattle.limbs.proofs.Addition.{zero_same}
-use borrow.Author.Rules.{rules}
 use Rattle.limbs.proofs.is_zero.Goals as goal
 
 pub returns : goal.returns

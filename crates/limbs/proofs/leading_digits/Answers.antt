@@ -4,7 +4,6 @@ use Rattle.limbs.specs.Nearest.{rounded, is_odd}
 use Rattle.limbs.specs.Packed.{leading_digits}
 use Rattle.limbs.specs.Side.{rounded_side}
 use Rattle.limbs.proofs.Leading.{lead, lead_nearest, lead_side}
-use borrow.Author.Rules.{rules}
 use Rattle.limbs.proofs.leading_digits.Goals as goal
 use Rattle.limbs.proofs.leading_digits.Goals.{After-round_by-n}
 

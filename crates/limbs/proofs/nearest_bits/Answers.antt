@@ -3,7 +3,6 @@ use Prim.Native.Nat.{ℕ, ◌+◌, ◌-◌, ◌*◌, ◌/◌, ◌^◌, ◌≤◌
 use native.Mathlib.Nat.{le_trans, le_of_eq}
 use Rattle.limbs.proofs.Leading.{leading_le}
 use Rattle.limbs.proofs.Scaled.{field_lt, field_fits, assembled, assembled_side, shift-lt, assembled_small, assembled_small_side}
-use borrow.Author.Rules.{rules}
 use Rattle.limbs.proofs.nearest_bits.Goals as goal
 
 pub assemble-requires : goal.assemble-requires
@@ -16,9 +15,12 @@ assemble-requires c =
 pub returns-then-by-unshifted : goal.returns-then-by-unshifted
 returns-then-by-unshifted c =
     let r = c.normalise-n in
-    let l = c.leading_digits-digits in record { unsigned_value = c.assemble.ensures
+    let l = c.leading_digits-digits in record {
+      unsigned_value = c.assemble.ensures
           ∙ ap (λ (q : ℕ). (27 + c.args.e - r.result.by) * 2 ^ 52 + q) l.ensures.unsigned_value
-          ∙ assembled c.args.a r.result.limbs c.args.e r.result.by r.ensures.shifted_left r.ensures.bound.0 c.requires.e_value c.if-by-unshifted.true; side_value = l.ensures.side_value ∙ assembled_side c.args.a r.result.limbs c.args.e r.result.by r.ensures.shifted_left r.ensures.bound.0 c.requires.e_value c.if-by-unshifted.true }
+          ∙ assembled c.args.a r.result.limbs c.args.e r.result.by r.ensures.shifted_left r.ensures.bound.0 c.requires.e_value c.if-by-unshifted.true;
+      side_value = l.ensures.side_value ∙ assembled_side c.args.a r.result.limbs c.args.e r.result.by r.ensures.shifted_left r.ensures.bound.0 c.requires.e_value c.if-by-unshifted.true;
+    }
 
 pub overflow_shr-result : goal.overflow_shr-result
 overflow_shr-result c =
@@ -27,5 +29,8 @@ overflow_shr-result c =
 
 pub returns : goal.returns
 returns c =
-    let r = c.normalise-n in record { unsigned_value = ap (λ (q : ℕ). q / 2 ^ (r.result.by - (27 + c.args.e))) c.leading_digits-digits.ensures.unsigned_value
-          ∙ assembled_small c.args.a r.result.limbs c.args.e r.result.by r.ensures.shifted_left r.ensures.bound.0 c.requires.e_value c.if-by-unshifted.false; side_value = assembled_small_side c.args.a r.result.limbs c.args.e r.result.by r.ensures.shifted_left r.ensures.bound.0 c.requires.e_value c.if-by-unshifted.false }
+    let r = c.normalise-n in record {
+      unsigned_value = ap (λ (q : ℕ). q / 2 ^ (r.result.by - (27 + c.args.e))) c.leading_digits-digits.ensures.unsigned_value
+          ∙ assembled_small c.args.a r.result.limbs c.args.e r.result.by r.ensures.shifted_left r.ensures.bound.0 c.requires.e_value c.if-by-unshifted.false;
+      side_value = assembled_small_side c.args.a r.result.limbs c.args.e r.result.by r.ensures.shifted_left r.ensures.bound.0 c.requires.e_value c.if-by-unshifted.false;
+    }

@@ -1,7 +1,6 @@
 use native.Mathlib.Nat.{le_trans}
 use lib.ListN.{get_or}
 use Rattle.limbs.proofs.Shift.{zeros_fit, zeros_ge, zeros-lt, digits_fit, leads, by_fits, by_lt, shifted_on}
-use borrow.Author.Rules.{rules}
 use Rattle.limbs.proofs.normalise.Goals as goal
 
 pub overflow_cast-d : goal.overflow_cast-d

@@ -4,7 +4,6 @@ use native.Mathlib.Nat.{le_trans, le_of_eq}
 use native.Mathlib.Omega.{arith}
 use native.Mathlib.Numerals.{add-one}
 use Rattle.limbs.proofs.Nearest.{round_next, round_stay}
-use borrow.Author.Rules.{rules}
 use Rattle.limbs.proofs.round_by.Goals as goal
 
 pub returns-then-rest-one_if : goal.returns-then-rest-one_if

@@ -1,5 +1,4 @@
 use Rattle.limbs.proofs.Shift.{digits_shifted}
-use borrow.Author.Rules.{rules}
 use Rattle.limbs.proofs.shift_digits.Goals as goal
 
 pub returns : goal.returns

@@ -1,7 +1,6 @@
 use mathlib.Core.Path.{ap₂}
 use Prim.Native.Nat.{ℕ, ◌+◌, ◌*◌, ◌^◌}
 use Rattle.limbs.proofs.Shift.{last_same, carried_out, limb_fits}
-use borrow.Author.Rules.{rules}
 use Rattle.limbs.proofs.shift_limb.Goals as goal
 
 pub overflow_add-result : goal.overflow_add-result

@@ -1,7 +1,6 @@
 use lib.Dec.{lit≤}
 use lib.ListN.{get_or}
 use Rattle.limbs.proofs.Shift.{limb_up, limb_up_lem, shifted_on, last_pos}
-use borrow.Author.Rules.{rules}
 use Rattle.limbs.proofs.shift_limbs.Goals as goal
 
 pub returns-then-a-gt0-2 : goal.returns-then-a-gt0-2

@@ -3,7 +3,6 @@ use native.Mathlib.Nat.{le_of_suc-le-suc, lt_of_not-le, not-le_of_lt, le_of_lt}
 use lib.ListN.{get_or}
 use Rattle.limbs.specs.Limbs.{value_of}
 use Rattle.limbs.proofs.Addition.{difference_reduced, difference_up, difference_less, difference_pos}
-use borrow.Author.Rules.{rules}
 use Rattle.limbs.proofs.signed_difference.Goals as goal
 use Rattle.limbs.proofs.signed_difference.Goals.{After-difference_with_bias}
 

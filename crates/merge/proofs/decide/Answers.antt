@@ -6,7 +6,6 @@ use borrow.Author.Tests.{not-true, not-false}
 use Rattle.refusal.specs.Outcome.{accepted}
 use Rattle.record.specs.Sound.{sound}
 use Rattle.merge.proofs.Outcome.{not_sound₁, not_sound₂, too_many_rows, too_many_keys_lem, fitting}
-use borrow.Author.Rules.{rules}
 use Rattle.merge.proofs.decide.Goals as goal
 use mathlib.Core.Bool.{not}
 use Rattle.merge.proofs.decide.Goals.{Else-not-is_sound, Else-not-is_sound-2}

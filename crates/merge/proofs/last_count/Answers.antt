@@ -3,7 +3,6 @@ use Prim.Native.Nat.{◌+◌}
 use mathlib.Core.Path.{sym, ap, ap₂, ◌∙◌}
 use Rattle.record.specs.Section.{Section}
 use Rattle.merge.proofs.Walk.{of_second, of_first, count-both}
-use borrow.Author.Rules.{rules}
 use Rattle.merge.proofs.last_count.Goals as goal
 
 pub returns-then-e-i : goal.returns-then-e-i

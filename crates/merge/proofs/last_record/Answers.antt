@@ -13,7 +13,6 @@ use Rattle.merge.specs.Steps.{last_section}
 use Rattle.record.proofs.Found.{sound_record_at}
 use Rattle.merge.proofs.State.{record_in}
 use Rattle.merge.proofs.Walk.{of_second, of_first, of_both, count-both}
-use borrow.Author.Rules.{rules}
 use Rattle.merge.proofs.last_record.Goals as goal
 
 pub returns-then-e-i : goal.returns-then-e-i

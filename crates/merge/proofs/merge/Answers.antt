@@ -3,7 +3,6 @@ use mathlib.Core.Path.{sym, ap, ◌∙◌}
 use native.Mathlib.Omega.{arith}
 use Rattle.table.specs.Answer.{table_answer}
 use Rattle.merge.proofs.Outcome.{accepted_says, leaves-written, leaves-same}
-use borrow.Author.Rules.{rules}
 use Rattle.merge.proofs.merge.Goals as goal
 
 pub write_union-requires : goal.write_union-requires

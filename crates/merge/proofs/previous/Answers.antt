@@ -6,7 +6,6 @@ use lib.ListN.{length}
 use Rattle.record.specs.Layout.{most_groups}
 use Rattle.record.proofs.Sound.{sound_parts}
 use Rattle.merge.proofs.Walk.{second_last, first_last, both_last}
-use borrow.Author.Rules.{rules}
 use Rattle.merge.proofs.previous.Goals as goal
 use Rattle.merge.proofs.previous.Goals.{Start}
 

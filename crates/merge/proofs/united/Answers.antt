@@ -1,15 +1,12 @@
 -- `united` counts the sections from the last one on. The idea: those counted, and those of the records still to be passed, together are as many as the union's,
 -- and one of them overflows where one of the union's does (`Inv-loop`).
-use Prim.Native.Nat.{ℕ, ◌+◌, ◌≤◌, ◌<◌}
+use Prim.Native.Nat.{ℕ, ◌≤◌, ◌<◌}
 use mathlib.Core.Path.{◌≡◌, refl, sym, ap, ◌∙◌}
 use mathlib.Core.Bool.{Bool, true, ◌||◌, or-true, or-false}
 use mathlib.Core.List.{List}
-use mathlib.Core.Logic.{⊎_elim}
 use native.Mathlib.Omega.{arith}
 use borrow.Author.Tests.{lt-ltb, le-ltb}
-use lib.Dec.{T}
 use lib.ListN.{length}
-use Rattle.record.specs.Sound.{sound}
 use Rattle.record.proofs.Sound.{sound_parts}
 use Rattle.table.specs.Calls.{most_rows, overflows, merge_sections}
 use Rattle.lists.specs.Lists.{any_of}
@@ -70,8 +67,8 @@ loop-j-preserved c =
       omega (arith, l.invariant.2, b.within.fewer),
       omega (arith, l.invariant.3, length_back b),
       elim c.if-last_count-gt-MOST_ROWS.branch [
-        then-last_count-gt-MOST_ROWS w ↦ taken b l.overflow c.last_count.ensures w.if-last_count-gt-MOST_ROWS.true w.overflow-is l.invariant.4 |
-        else-last_count-gt-MOST_ROWS w ↦ passed b l.overflow c.last_count.ensures w.if-last_count-gt-MOST_ROWS.false w.overflow-is l.invariant.4
+        | then-last_count-gt-MOST_ROWS w ↦ taken b l.overflow c.last_count.ensures w.if-last_count-gt-MOST_ROWS.true w.overflow-is l.invariant.4
+        | else-last_count-gt-MOST_ROWS w ↦ passed b l.overflow c.last_count.ensures w.if-last_count-gt-MOST_ROWS.false w.overflow-is l.invariant.4
       ],
     )
 

@@ -1,21 +1,11 @@
-use Prim.Native.Nat.{ℕ, ◌+◌, ◌≤◌, ◌<◌}
-use mathlib.Core.Path.{◌≡◌, refl, sym, ap, ◌∙◌}
-use mathlib.Core.Bool.{Bool, true, ◌||◌, or-true, or-false}
-use mathlib.Core.List.{List}
-use mathlib.Core.Logic.{⊎_elim}
-use native.Mathlib.Omega.{arith}
-use borrow.Author.Tests.{lt-ltb, le-ltb}
+use Prim.Native.Nat.{◌+◌, ◌≤◌}
+use mathlib.Core.Path.{◌≡◌}
+use mathlib.Core.Bool.{◌||◌}
 use lib.Dec.{T}
 use lib.ListN.{length}
 use Rattle.record.specs.Sound.{sound}
-use Rattle.record.proofs.Sound.{sound_parts}
-use Rattle.table.specs.Calls.{most_rows, overflows, merge_sections}
+use Rattle.table.specs.Calls.{overflows, merge_sections}
 use Rattle.lists.specs.Lists.{any_of}
-use Rattle.merge.specs.declared.Ends.{Ends}
-use Rattle.merge.specs.Steps.{last_section, StepBack}
-use Rattle.table.proofs.State.{length-sections}
-use Rattle.merge.proofs.State.{none_overflow}
-use Rattle.merge.proofs.Walk.{length_back, any_back, merge_none}
 use Rattle.merge.proofs.united.Given as goal
 
 abbrev pub invariant-loop-j : goal.invariant-loop-j

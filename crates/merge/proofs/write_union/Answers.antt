@@ -1,8 +1,7 @@
 -- `write_union` writes the sections from the last one on.
-use Prim.Native.Nat.{◌+◌}
 use mathlib.Core.Path.{refl}
 use native.Mathlib.Omega.{arith}
-use Rattle.merge.proofs.Writing.{Unwritten, places_left, no_overflow_last, left_less, all_written}
+use Rattle.merge.proofs.Writing.{places_left, no_overflow_last, left_less, all_written}
 use Rattle.merge.proofs.write_union.Goals as goal
 
 pub loop-b-init : goal.loop-b-init

@@ -1,7 +1,5 @@
 use Prim.Native.Nat.{◌+◌}
-use mathlib.Core.Path.{refl}
-use native.Mathlib.Omega.{arith}
-use Rattle.merge.proofs.Writing.{Unwritten, places_left, no_overflow_last, left_less, all_written}
+use Rattle.merge.proofs.Writing.{Unwritten}
 use Rattle.merge.proofs.write_union.Given as goal
 
 abbrev pub invariant-loop-b : goal.invariant-loop-b

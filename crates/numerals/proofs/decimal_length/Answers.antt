@@ -1,10 +1,6 @@
 -- `numerals::decimal_length`: each iteration takes one digit off.
-use Prim.Native.Nat.{◌+◌, ◌≤◌}
-use mathlib.Core.Path.{◌≡◌, refl}
+use mathlib.Core.Path.{refl}
 use native.Mathlib.Omega.{arith}
-use lib.ListN.{length}
-use Rattle.numerals.specs.Numerals.{decimal}
-use Rattle.numerals.specs.Steps.{longest_u64}
 use Rattle.numerals.proofs.Digits.{length-one, length_more}
 use Rattle.numerals.proofs.Size.{length_u64}
 use Rattle.numerals.proofs.decimal_length.Goals as goal

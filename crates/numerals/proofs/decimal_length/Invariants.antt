@@ -1,11 +1,8 @@
 use Prim.Native.Nat.{◌+◌, ◌≤◌}
-use mathlib.Core.Path.{◌≡◌, refl}
-use native.Mathlib.Omega.{arith}
+use mathlib.Core.Path.{◌≡◌}
 use lib.ListN.{length}
 use Rattle.numerals.specs.Numerals.{decimal}
 use Rattle.numerals.specs.Steps.{longest_u64}
-use Rattle.numerals.proofs.Digits.{length-one, length_more}
-use Rattle.numerals.proofs.Size.{length_u64}
 use Rattle.numerals.proofs.decimal_length.Given as goal
 
 abbrev pub invariant-loop-y : goal.invariant-loop-y

@@ -1,7 +1,6 @@
 use mathlib.Core.Path.{refl}
 use borrow.Author.Tests.{lt-ltb, le-ltb}
 use Rattle.numerals.specs.Numerals.{digit}
-use borrow.Author.Rules.{rules}
 use Rattle.numerals.proofs.digit_byte.Goals as goal
 
 pub returns-then-d-lt10 : goal.returns-then-d-lt10

@@ -2,7 +2,6 @@ use native.Mathlib.Omega.{arith}
 use Rattle.numerals.specs.Numerals.{hexadecimal}
 use Rattle.numerals.proofs.Digits.{length_digits}
 use Rattle.numerals.proofs.Texts.{text_stored}
-use borrow.Author.Rules.{rules}
 use Rattle.numerals.proofs.print_bits.Goals as goal
 
 pub returns : goal.returns

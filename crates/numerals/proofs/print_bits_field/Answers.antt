@@ -1,5 +1,4 @@
 use Rattle.numerals.proofs.Texts.{then}
-use borrow.Author.Rules.{rules}
 use Rattle.numerals.proofs.print_bits_field.Goals as goal
 
 pub returns : goal.returns

@@ -2,7 +2,6 @@ use mathlib.Core.Path.{refl}
 use native.Mathlib.Omega.{arith}
 use mathlib.Core.List.{[], ◌∷◌}
 use Rattle.numerals.proofs.Texts.{text_stored}
-use borrow.Author.Rules.{rules}
 use Rattle.numerals.proofs.print_byte.Goals as goal
 
 pub returns : goal.returns

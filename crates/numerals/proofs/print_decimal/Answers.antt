@@ -1,7 +1,6 @@
 use native.Mathlib.Omega.{arith}
 use Rattle.numerals.proofs.Size.{length-decimal}
 use Rattle.numerals.proofs.Texts.{longer}
-use borrow.Author.Rules.{rules}
 use Rattle.numerals.proofs.print_decimal.Goals as goal
 
 pub print_u64-requires : goal.print_u64-requires

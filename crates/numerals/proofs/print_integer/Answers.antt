@@ -8,7 +8,6 @@ use mir.Syntax.{w32}
 use Rattle.integers.proofs.Width.{BelowZero, FromZero, below-zero, from_zero}
 use Rattle.numerals.proofs.Signs.{below_text, from_text}
 use Rattle.numerals.proofs.Texts.{then, longer}
-use borrow.Author.Rules.{rules}
 use Rattle.numerals.proofs.print_integer.Goals as goal
 use Rattle.numerals.proofs.print_integer.Goals.{Else-z-lt0, Start, Then-z-lt0}
 

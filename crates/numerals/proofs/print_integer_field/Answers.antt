@@ -1,7 +1,6 @@
 use mir.Syntax.{w32}
 use mir.ValLaws.{to_z-of_z}
 use Rattle.numerals.proofs.Texts.{then}
-use borrow.Author.Rules.{rules}
 use Rattle.numerals.proofs.print_integer_field.Goals as goal
 
 pub returns : goal.returns

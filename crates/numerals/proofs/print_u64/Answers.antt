@@ -5,7 +5,6 @@ use lib.Seq.{sets}
 use Rattle.numerals.specs.Numerals.{digits, decimal}
 use Rattle.numerals.proofs.Digits.{last_decimal}
 use Rattle.numerals.proofs.Texts.{text_stored}
-use borrow.Author.Rules.{rules}
 use Rattle.numerals.proofs.print_u64.Goals as goal
 
 pub returns : goal.returns

@@ -5,7 +5,6 @@ use Rattle.numerals.specs.Numerals.{decimal}
 use Rattle.numerals.specs.Steps.{longest_u64}
 use Rattle.numerals.proofs.Size.{length_u64}
 use Rattle.numerals.proofs.Texts.{then, longer}
-use borrow.Author.Rules.{rules}
 use Rattle.numerals.proofs.print_u64_field.Goals as goal
 use Rattle.numerals.proofs.print_u64_field.Goals.{Start}
 

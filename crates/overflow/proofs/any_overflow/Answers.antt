@@ -1,7 +1,6 @@
 -- `any_overflow`: with few rows a section of the table, else the section of a row.
 use Prim.Native.Nat.{◌≤◌}
 use mathlib.Core.Path.{◌∙◌}
-use borrow.Author.Rules.{rules}
 use mathlib.Core.List.{List}
 use Rattle.record.specs.Section.{Section, sections}
 use Rattle.record.proofs.Sound.{sound_parts}

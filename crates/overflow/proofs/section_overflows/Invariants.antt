@@ -1,16 +1,9 @@
-use Prim.Native.Nat.{ℕ, ◌-◌, ◌*◌, ◌≤◌, ◌<◌}
-use mathlib.Core.Path.{◌≡◌, refl, sym, ap, ap₂, ◌∙◌}
+use Prim.Native.Nat.{ℕ, ◌-◌, ◌≤◌}
 use mathlib.Core.Bool.{Bool}
 use mathlib.Core.List.{List}
-use native.Mathlib.Omega.{arith}
-use borrow.Author.Rules.{rules}
-use lib.ListN.{length, get_or}
-use Rattle.record.specs.Layout.{record_at}
-use Rattle.record.specs.Section.{Section, meaning, sections}
-use Rattle.record.proofs.Laws.{get_d_sections}
-use Rattle.table.proofs.State.{length-sections}
+use Rattle.record.specs.Section.{Section, sections}
 use Rattle.overflow.specs.Counts.{count_overflows}
-use Rattle.lists.proofs.Scanning.{Undecided, scan_found, scan_next, scan_end}
+use Rattle.lists.proofs.Scanning.{Undecided}
 use Rattle.overflow.proofs.section_overflows.Given as goal
 
 abbrev test : List ℕ → Section → Bool

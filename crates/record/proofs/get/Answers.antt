@@ -1,4 +1,3 @@
-use native.Mathlib.Omega.{arith}
 use Rattle.record.proofs.get.Goals as goal
 
 pub returns : goal.returns

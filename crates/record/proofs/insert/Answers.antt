@@ -1,6 +1,5 @@
 -- `insert` moves the later records up and puts the new one in the gap.
 use Rattle.record.proofs.Laws.{inserted}
-use borrow.Author.Rules.{rules}
 use Rattle.record.proofs.insert.Goals as goal
 
 pub returns : goal.returns

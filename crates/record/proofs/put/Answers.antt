@@ -1,7 +1,6 @@
 -- `put` writes field after field; the seven parts stand one behind the other, so they are the record's encoding.
 use Prim.Native.Nat.{◌*◌}
 use Rattle.record.proofs.Laws.{record_stored, decode-encode, FieldsInRange}
-use native.Mathlib.Omega.{arith}
 use borrow.Author.Rules.{rules}
 use Rattle.record.proofs.put.Goals as goal
 use Rattle.record.proofs.put.Goals.{Start}

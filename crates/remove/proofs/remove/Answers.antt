@@ -1,7 +1,6 @@
 -- `remove` clears the work buffer whatever the answer.
 use Prim.Native.Nat.{ℕ}
 use mathlib.Core.Path.{ap, ◌∙◌}
-use native.Mathlib.Omega.{arith}
 use lib.ListN.{replicate}
 use Rattle.remove.proofs.remove.Goals as goal
 

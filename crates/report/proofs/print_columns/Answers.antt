@@ -12,7 +12,6 @@ use Rattle.table.specs.Calls.{add_outcome}
 use Rattle.report.specs.Text.{table_bytes, empty_table}
 use Rattle.numerals.proofs.Texts.{longer}
 use Rattle.report.proofs.Whole.{columns_left, columns_accepted, columns_refused}
-use borrow.Author.Rules.{rules}
 use Rattle.report.proofs.print_columns.Goals as goal
 use Rattle.report.proofs.print_columns.Goals.{After-add}
 

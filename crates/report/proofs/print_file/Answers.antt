@@ -11,7 +11,6 @@ use Rattle.numerals.proofs.Texts.{longer}
 use Rattle.report.specs.Text.{refusal_text, line_feed}
 use Rattle.report.specs.Steps.{longest_refusal}
 use Rattle.report.proofs.Whole.{file-accepted, file-refused}
-use borrow.Author.Rules.{rules}
 use Rattle.report.proofs.print_file.Goals as goal
 use Rattle.report.proofs.print_file.Goals.{After-read}
 

@@ -1,7 +1,6 @@
 use Rattle.numerals.specs.Numerals.{decimal}
 use Rattle.numerals.proofs.Texts.{then_ended}
 use Rattle.report.specs.Text.{space}
-use borrow.Author.Rules.{rules}
 use Rattle.report.proofs.print_key_and_count.Goals as goal
 
 pub returns : goal.returns

@@ -12,7 +12,6 @@ use Rattle.numerals.proofs.Texts.{then_ended}
 use Rattle.report.specs.Text.{space, line_feed, last_fields, figure_fields}
 use Rattle.report.specs.Steps.{longest_key_and_count}
 use Rattle.report.proofs.Lines.{line_printed}
-use borrow.Author.Rules.{rules}
 use Rattle.report.proofs.print_line.Goals as goal
 use Rattle.report.proofs.print_line.Goals.{After-print_bits_field-b, After-print_integer_field-c, After-print_key_and_count-a, Start}
 

@@ -4,7 +4,6 @@ use Rattle.numerals.specs.Numerals.{decimal}
 use Rattle.numerals.specs.Steps.{Continued, longest_decimal}
 use Rattle.numerals.proofs.Texts.{then_ended}
 use Rattle.report.specs.Text.{refusal_text, line_feed}
-use borrow.Author.Rules.{rules}
 use Rattle.report.proofs.print_refusal.Goals as goal
 use Rattle.report.proofs.print_refusal.Goals.{After-print_bytes-next, After-print_decimal_field}
 

@@ -9,7 +9,6 @@ use Rattle.numerals.specs.Steps.{Continued}
 use Rattle.numerals.proofs.Texts.{then_ended, longer}
 use Rattle.report.specs.Text.{line_feed, refusal_text, last_fields, figure_fields}
 use Rattle.report.specs.Steps.{longest_refusal}
-use borrow.Author.Rules.{rules}
 use Rattle.report.proofs.print_refused_fields.Goals as goal
 use Rattle.report.proofs.print_refused_fields.Goals.{After-print_bits_field-next, After-print_refusal}
 

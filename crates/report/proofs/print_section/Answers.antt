@@ -1,7 +1,6 @@
 use mathlib.Core.Path.{◌≡◌, sym, ap, ◌∙◌, subst}
 use mathlib.Core.Option.{some}
 use native.Mathlib.Omega.{arith}
-use borrow.Author.Rules.{rules}
 use Rattle.refusal.specs.Outcome.{refused}
 use Rattle.record.specs.Section.{Section, meaning, kept}
 use Rattle.finish.specs.Finish.{sum_of, line_of}

@@ -1,7 +1,6 @@
 use Rattle.numerals.specs.Numerals.{digit, decimal_in, decimal, integer}
 use Rattle.numerals.proofs.Texts.{longer}
 use native.Mathlib.Omega.{arith}
-use borrow.Author.Rules.{rules}
 use Rattle.report.proofs.print_side.Goals as goal
 
 pub returns-in-Less : goal.returns-in-Less

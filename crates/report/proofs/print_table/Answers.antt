@@ -7,7 +7,6 @@ use Rattle.totals.specs.Totals.{table_totals}
 use Rattle.numerals.specs.Steps.{Continued}
 use Rattle.report.specs.Text.{table_groups, head_line, table_text}
 use Rattle.numerals.proofs.Texts.{then, longer}
-use borrow.Author.Rules.{rules}
 use Rattle.report.proofs.print_table.Goals as goal
 use Rattle.report.proofs.print_table.Goals.{After-print_bytes-next}
 

@@ -5,7 +5,6 @@ use Rattle.numerals.specs.Numerals.{decimal}
 use Rattle.numerals.specs.Steps.{Continued, longest_u64}
 use Rattle.numerals.proofs.Texts.{then_ended}
 use Rattle.report.specs.Text.{space, line_feed, total_word, total_line}
-use borrow.Author.Rules.{rules}
 use Rattle.report.proofs.print_totals.Goals as goal
 use Rattle.report.proofs.print_totals.Goals.{After-print_bytes-a, After-print_u64_field, After-print_u64_field-b, Start}
 

@@ -1,5 +1,4 @@
 use Rattle.report.proofs.Lines.{line_printed}
-use borrow.Author.Rules.{rules}
 use Rattle.report.proofs.print_unfinished.Goals as goal
 
 pub returns : goal.returns

@@ -2,7 +2,6 @@ use Prim.Native.Nat.{ℕ}
 use mathlib.Core.List.{List}
 use native.Mathlib.Omega.{arith}
 use Rattle.report.proofs.Whole.{does_fit, does_not_fit}
-use borrow.Author.Rules.{rules}
 use Rattle.report.proofs.report.Goals as goal
 use Rattle.report.proofs.report.Goals.{After-print_file-n}
 

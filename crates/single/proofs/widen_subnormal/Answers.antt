@@ -5,7 +5,6 @@ use lib.Dec.{lit<}
 use lib.Count.{leading_le}
 use lib.Ieee.{size}
 use Rattle.single.proofs.Pattern.{subnormal_lt, subnormal_bits}
-use borrow.Author.Rules.{rules}
 use Rattle.single.proofs.widen_subnormal.Goals as goal
 use Rattle.single.proofs.widen_subnormal.Goals.{Else-fraction-eq0}
 

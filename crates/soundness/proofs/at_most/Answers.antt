@@ -5,7 +5,6 @@ use borrow.Author.Tests.{le-leb, lt-leb, leb-true}
 use Rattle.lists.proofs.Booleans.{same_test}
 use Rattle.level.specs.Level.{level_bound}
 use Rattle.level.specs.Carry.{carry_base}
-use borrow.Author.Rules.{rules}
 use Rattle.soundness.proofs.at_most.Goals as goal
 
 pub returns-then-k-q : goal.returns-then-k-q

@@ -5,7 +5,6 @@ use lib.Dec.{leb}
 use Rattle.level.specs.Finest.{highest_power}
 use Rattle.record.specs.declared.Record.{Record}
 use Rattle.record.specs.Sound.{sound_total, is_zero, sound_record}
-use borrow.Author.Rules.{rules}
 use Rattle.soundness.proofs.record_sound.Goals as goal
 
 -- The tests in the code's order; each equation is asked of its own call.

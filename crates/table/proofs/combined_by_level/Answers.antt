@@ -2,7 +2,6 @@
 use Prim.Native.Nat.{ℕ, ◌+◌, ◌≤◌, max, min}
 use mathlib.Core.Path.{◌≡◌}
 use native.Mathlib.Omega.{arith}
-use borrow.Author.Rules.{rules}
 use Rattle.level.specs.declared.SplitTotal.{SplitTotal}
 use Rattle.level.specs.Level.{below}
 use Rattle.level.specs.Carry.{split_of}

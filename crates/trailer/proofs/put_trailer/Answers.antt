@@ -2,7 +2,6 @@
 use Prim.Native.Nat.{◌+◌}
 use mathlib.Core.Path.{◌≡◌}
 use lib.Seq.{sets}
-use borrow.Author.Rules.{rules}
 use Rattle.codec.specs.Bytes.{bytes}
 use Rattle.trailer.proofs.Laws.{trailer_set}
 use Rattle.trailer.proofs.put_trailer.Goals as goal
