@@ -80,7 +80,7 @@ module _ (h : History) where
 
   same_state : (state_of (removing_nothing plain) ≡ state_after (empty h) h.calls) × (answers_any (empty h) (map other plain.calls) ≡ answers (empty h) h.calls)
   same_state =
-      let w = older_files.without-older (empty h) h.calls in
+      let w = older_files.without_older (empty h) h.calls in
       (plain_state (empty h) plain.calls ∙ w.0, plain_answers (empty h) plain.calls ∙ w.1)
 
   same_rows : (i : ℕ) → (account_of (removing_nothing plain) i).account_rows ≡ rows h i

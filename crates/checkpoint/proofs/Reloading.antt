@@ -1,5 +1,5 @@
 -- What was saved is loaded with the same records, and what was loaded is saved as the same file. The idea: the fields of a saved file are read back as they were
--- written, so only the room is asked for; and an accepted file is the file of its own records (`accepted-is-saved`).
+-- written, so only the room is asked for; and an accepted file is the file of its own records (`accepted_is_saved`).
 use Prim.Native.Nat.{ℕ, ◌-◌, ◌*◌, ◌≤◌}
 use mathlib.Core.Path.{◌≡◌, refl, sym, ap, ◌∙◌}
 use mathlib.Core.Bool.{true, false}

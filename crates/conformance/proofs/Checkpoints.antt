@@ -41,7 +41,7 @@ checkpoints = record {
   of_girth_save = λ κs a z e l. l;
   of_load = λ κs b z f l. l;
   of_girth_load = λ κs b z f l. l;
-  records-back = λ κs a z e l n q κs' b y f m p room.
+  records_back = λ κs a z e l n q κs' b y f m p room.
       let s = a.0.now in
       let g = a.1.0 in
       let out = a.1.1.0.now in
@@ -54,7 +54,7 @@ checkpoints = record {
         ap (take (64 * g)) left ∙ is.2,
         ap (drop (64 * g)) left ∙ is.3,
       );
-  file-back = λ κs b y f m bs g q κs' a z e l p r room.
+  file_back = λ κs b y f m bs g q κs' a z e l p r room.
       let file = b.0.now in
       let t = b.1.0.now in
       let out = a.1.1.0.now in

@@ -30,7 +30,7 @@ use Rattle.checkpoint.specs.Saved.{saved_length, saved_table, group_count}
 use Rattle.checkpoint.specs.Calls.{save_grounds, save_outcome, save_leaves, load_grounds, load_outcome, load_leaves}
 use Rattle.checkpoint.proofs.Saving.{file_saved}
 use Rattle.exports.specs.Width.{no_kind_outcome, add_of_width, add_of_width_leaves}
-use Rattle.exports.proofs.Widths.{one_byte, unfit_add, unfit_add-leaves}
+use Rattle.exports.proofs.Widths.{one_byte, unfit_add, unfit_add_leaves}
 use Rattle.exports.specs.Calls.{returns_count, returns_zero, returns_flag, writes, double_bits}
 use Rattle.history.specs.Calls.{Call, shelved}
 use Rattle.history.specs.Run.{State, Answer, set_table, after, after_load, file_on, step, groups_are, sum_is, figure_is, line_is, exactness_is, totals_are, length_is, ask_table, answer}
@@ -205,7 +205,7 @@ steps s c x s' (by_girth_add_of_no_kind i κs a z e k p l) =
     let t = a.0.now in let g = a.1.0 in let ks = a.1.1.0.now in let vs = a.1.1.1.0.now in let len = length a.1.1.1.1.1.0.now in
     changed s i (λ t g. add_outcome Double t g one_byte one_byte len) (λ t g. add_leaves Double t g one_byte one_byte len) p
     (kind-back (λ w. add_of_width w t g ks vs len) k (no_kind_not_0 t g len) l.0 ∙ sym (unfit_add t g len))
-    (l.1.0 ∙ ap (λ (w : Option Kind). add_of_width_leaves w t g ks vs len) k ∙ sym (unfit_add-leaves t g len))
+    (l.1.0 ∙ ap (λ (w : Option Kind). add_of_width_leaves w t g ks vs len) k ∙ sym (unfit_add_leaves t g len))
 steps s c x s' (by_merge i j apart κs a z e p q l) = (
   rw (p.0, p.1, q.0, q.1) (ap groups_are (sym l.0)),
   rw (p.0, p.1, q.0, q.1) (ap₂ (λ (o : Outcome ℕ) (b : List ℕ). set_table i (after o b a.1.0) s) (sym l.0) (sym l.1)),

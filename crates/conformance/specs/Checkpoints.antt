@@ -32,7 +32,7 @@ pub record Checkpoints : Type 1 where
       → (z ≡ returns_count (load_outcome b.0.now (length b.1.0.now))) × (f.1.0.now ≡ load_leaves b.0.now b.1.0.now)
   -- the first bytes of the output, as many as a save answers, loaded into any table with room: g is answered, the records are the same, to the byte, and the bytes
   -- after them are as they were
-  pub records-back : (κs : Lfts 2) (a : Dens κs girth_save_kinds.ps) (z : (res_t girth_save_kinds.r κs).Denot) (e : AtExit (ended_of 2 girth_save_kinds.ps girth_save_kinds.r) κs) → girth_save_reads.Learnt κs a z e
+  pub records_back : (κs : Lfts 2) (a : Dens κs girth_save_kinds.ps) (z : (res_t girth_save_kinds.r κs).Denot) (e : AtExit (ended_of 2 girth_save_kinds.ps girth_save_kinds.r) κs) → girth_save_reads.Learnt κs a z e
       → (n : ℕ) → count_said z ≡ accepted n
       → (κs' : Lfts 2) (b : Dens κs' girth_load_kinds.ps) (y : (res_t girth_load_kinds.r κs').Denot) (f : AtExit (ended_of 2 girth_load_kinds.ps girth_load_kinds.r) κs') → girth_load_reads.Learnt κs' b y f
       → b.0.now ≡ take n e.1.1.0.now → 64 * a.1.0 ≤ length b.1.0.now
@@ -40,7 +40,7 @@ pub record Checkpoints : Type 1 where
       × (take (64 * a.1.0) f.1.0.now ≡ take (64 * a.1.0) a.0.now) × (drop (64 * a.1.0) f.1.0.now ≡ drop (64 * a.1.0) b.1.0.now)
   -- a file that was loaded, saved again from the table that it left, with the group count answered, to any output with room: its length is answered, and it is the file,
   -- to the byte; that it holds bytes is not said of a call's arguments
-  pub file-back : (κs : Lfts 2) (b : Dens κs girth_load_kinds.ps) (y : (res_t girth_load_kinds.r κs).Denot) (f : AtExit (ended_of 2 girth_load_kinds.ps girth_load_kinds.r) κs) → girth_load_reads.Learnt κs b y f
+  pub file_back : (κs : Lfts 2) (b : Dens κs girth_load_kinds.ps) (y : (res_t girth_load_kinds.r κs).Denot) (f : AtExit (ended_of 2 girth_load_kinds.ps girth_load_kinds.r) κs) → girth_load_reads.Learnt κs b y f
       → T (are_bytes b.0.now) → (g : ℕ) → count_said y ≡ accepted g
       → (κs' : Lfts 2) (a : Dens κs' girth_save_kinds.ps) (z : (res_t girth_save_kinds.r κs').Denot) (e : AtExit (ended_of 2 girth_save_kinds.ps girth_save_kinds.r) κs') → girth_save_reads.Learnt κs' a z e
       → a.0.now ≡ f.1.0.now → a.1.0 ≡ g → length b.0.now ≤ length a.1.1.0.now

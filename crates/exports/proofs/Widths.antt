@@ -43,8 +43,8 @@ module _ (s : List ℕ) (g work_len : ℕ) where
   unfolding add_grounds column_grounds
   unfit_add = rw unfit
 
-  pub unfit_add-leaves : add_leaves Double s g one_byte one_byte work_len ≡ s
-  unfit_add-leaves = no_kind_leaves (λ o. leaves o (add_sections Double s g one_byte one_byte) s) (λ n. refl) unfit_add
+  pub unfit_add_leaves : add_leaves Double s g one_byte one_byte work_len ≡ s
+  unfit_add_leaves = no_kind_leaves (λ o. leaves o (add_sections Double s g one_byte one_byte) s) (λ n. refl) unfit_add
 
   -- and so has their removal
   pub unfit_removal : remove_outcome Double s g one_byte one_byte work_len ≡ no_kind_outcome s g work_len

@@ -226,10 +226,10 @@ module _ (len : ℕ → ℕ) where
       (step_agrees len b s' l a (renewed c)) (step_fades len b l o s s' a w c) cs)
 
 -- without a load of an older file
-without-older : (s : State) (cs : List Call) → (state_after_older s (map ordinary cs) ≡ state_after s cs) × (answers_older s (map ordinary cs) ≡ answers s cs)
+without_older : (s : State) (cs : List Call) → (state_after_older s (map ordinary cs) ≡ state_after s cs) × (answers_older s (map ordinary cs) ≡ answers s cs)
 unfolding state_after_older state_after answers_older answers step_older answer_older
-without-older s [] = (refl, refl)
-without-older s (c ∷ cs) = let w = without-older (step s c) cs in (w.0, ap (λ (xs : List Answer). answer s c ∷ xs) w.1)
+without_older s [] = (refl, refl)
+without_older s (c ∷ cs) = let w = without_older (step s c) cs in (w.0, ap (λ (xs : List Answer). answer s c ∷ xs) w.1)
 
 -- 7 stays 7
 refuses_but : (n : ℕ) (xs : List Answer) → any_of (refuses n) (map but_exactness xs) ≡ any_of (refuses n) xs
@@ -309,7 +309,7 @@ finest-faded s false = refl
 
 pub older_files : OlderFiles
 older_files = record {
-  without-older = without-older;
+  without_older = without_older;
   older-sound = sound_here;
   older-used = λ h i. (fades_here h i).used_are ∙ ap section_bytes (sections_here h i);
   older-groups = λ h i. (fades_here h i).groups ∙ (holds_is (renewed_history h) i).groups;

@@ -34,7 +34,7 @@ terms = record {
   same_if = λ xs ys p. record { counts = λ r. occurs_permuted r p };
   same_only_if = λ xs ys h. permuted xs ys h.counts;
   numbers_once = once;
-  largest-one = one;
+  largest_one = one;
   largest_all = all;
   finest_whole = finest_whole;
   finest_most = finest_most;

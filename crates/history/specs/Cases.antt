@@ -249,9 +249,9 @@ unfolding older_half left_in_table0 answers_older answer_older step_older find
 older_half_told = refl
 
 -- the older file brought section 7, and not section 9; their finest powers are 0 and 1074
-older-brought : (map (from_older older_half 1) (7 ∷ 9 ∷ 5 ∷ []) ≡ true ∷ false ∷ false ∷ []) × (map (λ (t : Section). t.finest) (sections_in (older_table older_half 1)) ≡ 0 ∷ 1074 ∷ [])
+older_brought : (map (from_older older_half 1) (7 ∷ 9 ∷ 5 ∷ []) ≡ true ∷ false ∷ false ∷ []) × (map (λ (t : Section). t.finest) (sections_in (older_table older_half 1)) ≡ 0 ∷ 1074 ∷ [])
 unfolding older_half left_in_table0 state_after_older step_older origins_after step_origins ledger_after step_rows too_many_rows section_numbers add_rows_grounds insert_key section_bits too_many_keys save_rows_grounds load_rows_grounds
-older-brought = (refl, refl)
+older_brought = (refl, refl)
 
 -- the file of table 0, and as an older version wrote it: zeros from byte 12 on, and all other bytes the same
 saved_half : List ℕ

@@ -142,7 +142,7 @@ used_but_finest t = section_bytes (map (with_finest 0) (sections_in t))
 -- the claims
 pub record OlderFiles : Type 0 where
   -- without a load of an older file it is the way of working of demand 3, so that sameness is whole
-  pub without-older : (s : State) (cs : List Call) → (state_after_older s (map ordinary cs) ≡ state_after s cs) × (answers_older s (map ordinary cs) ≡ answers s cs)
+  pub without_older : (s : State) (cs : List Call) → (state_after_older s (map ordinary cs) ≡ state_after s cs) × (answers_older s (map ordinary cs) ≡ answers s cs)
   -- every table is sound; its used bytes are those of the sections that document 01 fixes for its rows, with 0 for the finest power of those that an older file brought
   pub older-sound : (h : OlderHistory) (i : ℕ) → sound (older_table h i).buffer (older_table h i).groups ≡ true
   pub older-used : (h : OlderHistory) (i : ℕ) → used (older_table h i) ≡ section_bytes (map (faded (from_older h i)) (canonical (older_rows h i)))

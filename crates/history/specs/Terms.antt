@@ -14,7 +14,7 @@ pub record Terms : Type 0 where
   -- the number of a row stands once among the distinct section numbers, any other number not at all
   pub numbers_once : (k : ℕ) (rows : List Row) → occurrences k (section_numbers rows) ≡ cond (any_of (λ (r : Row). eqb k r.key) rows) 1 0
   -- the largest size is that of one of the rows, and none has a larger one
-  pub largest-one : (bs : List ℕ) → 0 < length bs → (i : ℕ) × (i < length bs) × (largest bs ≡ magnitude (get_or bs i 0))
+  pub largest_one : (bs : List ℕ) → 0 < length bs → (i : ℕ) × (i < length bs) × (largest bs ≡ magnitude (get_or bs i 0))
   pub largest_all : (bs : List ℕ) (i : ℕ) → i < length bs → magnitude (get_or bs i 0) ≤ largest bs
   -- every row is a whole multiple of 2^(z - 1074) for the finest power z; where one of them is finite and not zero, it is so for no larger one
   pub finest_whole : (bs : List ℕ) (i : ℕ) → i < length bs → magnitude (get_or bs i 0) % 2 ^ finest_of bs ≡ 0

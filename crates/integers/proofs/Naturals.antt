@@ -1,4 +1,4 @@
--- Natural numbers: a sum of exponents; and the order of two numbers, by the three cases that it has (`order-cases`).
+-- Natural numbers: a sum of exponents; and the order of two numbers, by the three cases that it has (`order_cases`).
 use mathlib.Core.Path.{◌≡◌, refl, sym, ap, ◌∙◌}
 use mathlib.Core.Bool.{not}
 use mathlib.Core.Logic.{◌⊎◌, inl, inr}

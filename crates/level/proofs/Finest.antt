@@ -1,4 +1,4 @@
--- The finest power of rows, the largest power of two that they are all multiples of. The idea: a search up to n has one result (`largest-only`), so a
+-- The finest power of rows, the largest power of two that they are all multiples of. The idea: a search up to n has one result (`largest_only`), so a
 -- number that is shown to be the largest is it: the smaller of two finest powers, and the place of a significand's last digit that is not 0.
 use mathlib.Core.Path.{◌≡◌, refl, sym, ap, ◌∙◌}
 use mathlib.Core.Bool.{Bool, true, false, cond}

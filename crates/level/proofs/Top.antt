@@ -1,4 +1,4 @@
--- The top of a row is the smallest level whose 2^39 units exceed the row's size. The idea: no two levels are the smallest (`least-unique`), so a level
+-- The top of a row is the smallest level whose 2^39 units exceed the row's size. The idea: no two levels are the smallest (`least_unique`), so a level
 -- that is shown to be it is the top: the one that the search finds, and the one that the exponent field gives.
 use mathlib.Core.Path.{◌≡◌, refl, sym, subst}
 use mathlib.Core.Bool.{Bool, true, false, cond}

@@ -1,4 +1,4 @@
--- The whole number nearest to a fraction. The idea: everything goes by the three orders that twice the remainder and the divisor can stand in (`order-cases`).
+-- The whole number nearest to a fraction. The idea: everything goes by the three orders that twice the remainder and the divisor can stand in (`order_cases`).
 use mathlib.Core.Path.{◌≡◌, refl, sym, ap, ap₂, ◌∙◌, subst}
 use mathlib.Core.Bool.{Bool, true, false, cond}
 use mathlib.Core.Logic.{◌⊎◌, inl, inr}

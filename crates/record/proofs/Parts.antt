@@ -1,4 +1,4 @@
--- A sound record, condition by condition, and the range of each level. The idea: the conditions are taken apart once (`sound-record-parts`), and a total of
+-- A sound record, condition by condition, and the range of each level. The idea: the conditions are taken apart once (`sound_record_parts`), and a total of
 -- fewer than 2^32 rows has a small carry.
 use Prim.Native.Nat.{ℕ, ◌+◌, ◌*◌, ◌^◌, ◌≤◌, ◌<◌}
 use mathlib.Core.Path.{◌≡◌}

@@ -33,9 +33,9 @@ sample_sound = refl
 abbrev one_record : List ℕ
 one_record = encode sample_record ++ replicate 70 255
 
-one-sound : sound one_record 1 ≡ true
+one_sound : sound one_record 1 ≡ true
 unfolding sound sound_records sound_record sound_total is_zero rising cells decode encode bytes number_at number
-one-sound = refl
+one_sound = refl
 
 twice_not : sound (encode sample_record ++ encode sample_record) 2 ≡ false
 unfolding sound sound_records sound_record sound_total is_zero rising cells decode encode bytes number_at number

@@ -1,4 +1,4 @@
--- The records of a table, reduced one after the other. The idea: where 20 does not hold each record has the rows that the patch has for it (`rows-enough`); what
+-- The records of a table, reduced one after the other. The idea: where 20 does not hold each record has the rows that the patch has for it (`rows_enough`); what
 -- remains of the first i records, written at the front, leaves the records from i on as they were, and the next one that remains is put right after it (`Kept`).
 use Prim.Native.Nat.{ℕ, ◌+◌, ◌*◌, ◌≤◌, ◌<◌}
 use mathlib.Core.Path.{◌≡◌, refl, sym, ◌∙◌, ap, ap₂}

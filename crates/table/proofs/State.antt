@@ -1,5 +1,5 @@
 -- A sound table in bytes: its sections fit, their keys rise, and its used bytes are those of its sections. The idea: a sound record and its section determine
--- each other (`record-meaning`).
+-- each other (`record_meaning`).
 use Prim.Native.Nat.{ℕ, zero, suc, ◌*◌, ◌^◌, ◌≤◌, ◌<◌}
 use mathlib.Core.Path.{◌≡◌, refl, sym, ap, ap₂, ◌∙◌, subst}
 use mathlib.Core.List.{List, [], ◌∷◌, ◌++◌, map}
@@ -79,10 +79,10 @@ rising-keys (r ∷ []) t = tt
 rising-keys (r ∷ q ∷ rs) t =
     (ltb→lt r.key q.key (and_l (ltb r.key q.key) (rising (record_keys (q ∷ rs))) t), rising-keys (q ∷ rs) (and_r (ltb r.key q.key) (rising (record_keys (q ∷ rs))) t))
 
-records-back : (rs : List Record) → T (sound_records rs) → map record_of (map meaning rs) ≡ rs
+records_back : (rs : List Record) → T (sound_records rs) → map record_of (map meaning rs) ≡ rs
 unfolding sound_records
-records-back [] t = refl
-records-back (r ∷ rs) t = ap₂ ◌∷◌ (record_meaning r (and_l (sound_record r) (sound_records rs) t)) (records-back rs (and_r (sound_record r) (sound_records rs) t))
+records_back [] t = refl
+records_back (r ∷ rs) t = ap₂ ◌∷◌ (record_meaning r (and_l (sound_record r) (sound_records rs) t)) (records_back rs (and_r (sound_record r) (sound_records rs) t))
 
 pub length-sections : (s : List ℕ) (g : ℕ) → length (sections s g) ≡ g
 length-sections s g = length-map (records s g) meaning ∙ length-cells 64 decode g s
@@ -96,7 +96,7 @@ module _ (s : List ℕ) (g : ℕ) (ok : T (sound s g)) where
   sound-rising = rising-keys (records s g) (sound_parts s g ok).2
 
   pub sound_records_of : map record_of (sections s g) ≡ records s g
-  sound_records_of = records-back (records s g) (sound_parts s g ok).3
+  sound_records_of = records_back (records s g) (sound_parts s g ok).3
 
 -- records of sections that fit, in rising order, are a sound table
 pub sound-sections : (s : List ℕ) (g : ℕ) (ts : List Section) → g ≤ capacity (length s) → records s g ≡ map record_of ts → All Storable ts → Rising (keys_in ts) → T (sound s g)

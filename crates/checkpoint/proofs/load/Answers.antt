@@ -1,5 +1,5 @@
 -- `load`: 1, 2, 3, 19, 16 and 7 are tested in this order, and then the records are copied. The idea: past each test its condition is known not to hold, so each
--- return cites the law of its own number (`load-1` to `load-accepts`).
+-- return cites the law of its own number (`load-1` to `load_accepts`).
 use Prim.Native.Nat.{◌*◌, ◌≤◌}
 use mathlib.Core.Path.{◌≡◌, sym, ap, ◌∙◌}
 use mathlib.Core.Bool.{true, false}

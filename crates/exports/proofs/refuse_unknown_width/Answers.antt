@@ -8,7 +8,7 @@ use Rattle.table.specs.Answer.{table_answer}
 use Rattle.table.specs.Calls.{add_outcome, add_leaves}
 use Rattle.exports.specs.Calls.{returns_count}
 use Rattle.exports.proofs.Answers.{add-groups}
-use Rattle.exports.proofs.Widths.{one_byte, unfit_add, unfit_add-leaves}
+use Rattle.exports.proofs.Widths.{one_byte, unfit_add, unfit_add_leaves}
 use borrow.Author.Rules.{rules}
 use Rattle.exports.proofs.refuse_unknown_width.Goals as goal
 use Rattle.exports.proofs.refuse_unknown_width.Goals.{After-add, Start}
@@ -27,4 +27,4 @@ pub returns : goal.returns
 returns c =
     let s = c.args in
     let w = c.groups_or_minus in
-    let f : SFits w64 w.result = search rules in record { answer = to_z-of_z w64 w.result f ∙ w.ensures ∙ ap returns_count (answer-here (goal.at.returns c).After-add ∙ unfit_add s.table.now s.g (length s.work.now)); content = leaves-here (goal.at.returns c).After-add ∙ unfit_add-leaves s.table.now s.g (length s.work.now); work = c.add.ensures.work }
+    let f : SFits w64 w.result = search rules in record { answer = to_z-of_z w64 w.result f ∙ w.ensures ∙ ap returns_count (answer-here (goal.at.returns c).After-add ∙ unfit_add s.table.now s.g (length s.work.now)); content = leaves-here (goal.at.returns c).After-add ∙ unfit_add_leaves s.table.now s.g (length s.work.now); work = c.add.ensures.work }

@@ -1,5 +1,5 @@
 -- `united` counts the sections from the last one on. The idea: those counted, and those of the records still to be passed, together are as many as the union's,
--- and one of them overflows where one of the union's does (`Inv-loop`).
+-- and one of them overflows where one of the union's does (`invariant-loop-j`).
 use Prim.Native.Nat.{ℕ, ◌≤◌, ◌<◌}
 use mathlib.Core.Path.{◌≡◌, refl, sym, ap, ◌∙◌}
 use mathlib.Core.Bool.{Bool, true, ◌||◌, or-true, or-false}

@@ -12,7 +12,9 @@ use Rattle.report.specs.Steps.{longest_refusal}
 use Rattle.report.proofs.print_refused_fields.Goals as goal
 use Rattle.report.proofs.print_refused_fields.Goals.{After-print_bits_field-next, After-print_refusal}
 
--- where the refused figure was printed
+-- Where the refused figure was printed,
+-- the refusal's text stands after the sum's bits
+-- and the space that ends them.
 module _ (c : After-print_refusal) where
   figure-printed : Continued c.print_bits_field-next.new.text c.print_bits_field-next.result (refusal_text c.args.n ++ line_feed) (longest_refusal + 1) c.print_refusal.new.text c.print_refusal.result
   figure-printed = c.print_refusal.ensures
