@@ -3,7 +3,7 @@ use Prim.Native.Nat.{ℕ}
 use mathlib.Core.Path.{◌≡◌, refl, ap, ◌∙◌}
 use mathlib.Core.Bool.{Bool, true, false, not}
 use mathlib.Core.List.{List, [], ◌∷◌}
-use mathlib.Core.Option.{some}
+use mathlib.Core.Option.{some, none}
 use lib.Dec.{ltb}
 use lib.ListN.{length}
 use Rattle.refusal.specs.Outcome.{Outcome, refused, ground, outcome}
@@ -13,7 +13,7 @@ use Rattle.columns.specs.Columns.{width, columns_fit}
 use Rattle.record.specs.Sound.{sound}
 use Rattle.table.specs.Calls.{leaves, column_grounds, add_sections, add_grounds, add_outcome, add_leaves}
 use Rattle.remove.specs.Calls.{remove_grounds, remove_sections, remove_outcome, leaves_fewer, remove_leaves}
-use Rattle.exports.specs.Width.{kind_of_width, no_kind_outcome}
+use Rattle.exports.specs.Width.{kind_of_width, no_kind_outcome, add_of_width}
 
 -- a kind is found by its width
 pub width_back : (kind : Kind) → kind_of_width (width kind) ≡ some kind
@@ -53,3 +53,11 @@ module _ (s : List ℕ) (g work_len : ℕ) where
 
   pub unfit_removal_leaves : remove_leaves Double s g one_byte one_byte work_len ≡ s
   unfit_removal_leaves = no_kind_leaves (λ o. leaves_fewer o (remove_sections Double s g one_byte one_byte) g s) (λ n. refl) unfit_removal
+
+-- so the add of such columns is one of values of no kind, whatever its columns are
+module _ (s : List ℕ) (g : ℕ) (ks vs : List ℕ) (work_len : ℕ) where
+  pub unknown_outcome : add_outcome Double s g one_byte one_byte work_len ≡ add_of_width none s g ks vs work_len
+  unknown_outcome = unfit_add s g work_len
+
+  pub unknown_leaves : add_leaves Double s g one_byte one_byte work_len ≡ s
+  unknown_leaves = unfit_add_leaves s g work_len

@@ -26,7 +26,7 @@ no_kind_outcome s g work_len = outcome (ground 7 (not (sound s g)) ∷ ground 8 
 -- the outcome of an add of values of some kind, or of none
 abbrev pub add_of_width : Option Kind → List ℕ → ℕ → List ℕ → List ℕ → ℕ → Outcome ℕ
 add_of_width (some kind) s g ks vs work_len = add_outcome kind s g ks vs work_len
-add_of_width none s g ks vs work_len = no_kind_outcome s g work_len
+add_of_width none s g ks vs work_len = outcome (ground 7 (not (sound s g)) ∷ ground 8 (ltb work_len (length s)) ∷ ground 9 true ∷ []) 0
 
 -- the bytes that it leaves
 abbrev pub add_of_width_leaves : Option Kind → List ℕ → ℕ → List ℕ → List ℕ → ℕ → List ℕ
