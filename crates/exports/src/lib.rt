@@ -2,7 +2,8 @@
 // out through references, and are 0 when the call is refused.
 #![tactic(auto)]
 
-ghost use Rattle.std.specs.Prelude.{◌≡◌, ℕ, ◌≤◌, ◌<◌, ◌^◌, pos, neg_ℤ, length};
+ghost use Rattle.std.specs.Prelude.{◌≡◌, [], ℕ, ◌≤◌, ◌<◌, ◌^◌, pos, neg_ℤ, length};
+ghost use Rattle.std.proofs.Math.Option.{none};
 ghost use Rattle.refusal.specs.Number.{number_of};
 ghost use Rattle.refusal.specs.Outcome.{accepted};
 ghost use Rattle.output.specs.Output.{output_answer};
@@ -98,6 +99,15 @@ fn refuse_unknown_width(table: &mut [u8], g: u64, work: &mut [u8]) -> i64
     groups_or_minus(add::add(table, g as usize, &unfit, &unfit, Kind::Double, work))
 }
 
+// An add whose values have a width of no kind: as with any other columns that no row count fits, 7 and 8 go before 9.
+fn add_of_unknown_width(table: &mut [u8], g: u64, work: &mut [u8]) -> i64
+    ensures answer { result ≡ returns_count (add_of_width none table.old g [] [] (length work.old)) }
+    ensures content { table.new ≡ table.old }
+    ensures work { work.new ≡ cleared work.old }
+{
+    refuse_unknown_width(table, g, work)
+}
+
 // Adds the rows of two columns to a table of g records, each value having so many bytes. The work buffer holds only zeros afterwards.
 pub fn girth_add(
     table: &mut [u8],
@@ -115,7 +125,7 @@ pub fn girth_add(
         WidthKind::Of(kind) => {
             groups_or_minus(add::add(table, g as usize, keys, values, kind, work))
         }
-        WidthKind::Unknown => refuse_unknown_width(table, g, work),
+        WidthKind::Unknown => add_of_unknown_width(table, g, work),
     }
 }
 

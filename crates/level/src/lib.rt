@@ -335,7 +335,7 @@ pub fn plus(x: i64, y: i64) -> i64
 }
 
 // Two totals added. A residue may be 2^50 itself, as that of an opposite may (subtract_totals).
-pub fn add_totals(a: SplitTotal, b: SplitTotal) -> SplitTotal
+fn add_up_to_base(a: SplitTotal, b: SplitTotal) -> SplitTotal
     requires { (a.residue ≤ carry_base) × (b.residue ≤ carry_base) × (nat_abs a.carry < 2 ^ 61) × (nat_abs b.carry < 2 ^ 61) }
     ensures { result ≡ split_of (total_of a +ℤ total_of b) }
 {
@@ -347,6 +347,14 @@ pub fn add_totals(a: SplitTotal, b: SplitTotal) -> SplitTotal
     }
 }
 
+// Two totals added.
+pub fn add_totals(a: SplitTotal, b: SplitTotal) -> SplitTotal
+    requires { (a.residue < carry_base) × (b.residue < carry_base) × (nat_abs a.carry < 2 ^ 61) × (nat_abs b.carry < 2 ^ 61) }
+    ensures { result ≡ split_of (total_of a +ℤ total_of b) }
+{
+    add_up_to_base(a, b)
+}
+
 // One total taken off another: what is added is its residue's distance to 2^50, and the carry complemented, which makes up for it.
 pub fn subtract_totals(a: SplitTotal, b: SplitTotal) -> SplitTotal
     requires { (a.residue ≤ carry_base) × (b.residue ≤ carry_base) × (nat_abs a.carry < 2 ^ 61) × (nat_abs b.carry < 2 ^ 60) }
@@ -356,5 +364,5 @@ pub fn subtract_totals(a: SplitTotal, b: SplitTotal) -> SplitTotal
         residue: CARRY_BASE - b.residue,
         carry: !b.carry,
     };
-    add_totals(a, opposite)
+    add_up_to_base(a, opposite)
 }

@@ -31,7 +31,7 @@ returns-in-Of c =
 pub returns-in-Unknown : goal.returns-in-Unknown
 returns-in-Unknown c =
     let l = c.args in
-    let w = c.refuse_unknown_width in
+    let w = c.add_of_unknown_width in
     let f : SFits w64 w.result = search rules in
     let no-kind-here : none ≡ kind_of_width l.value_width = ap width_kind (sym c.in-Unknown.is) ∙ c.kind_of_width.ensures in
     record {

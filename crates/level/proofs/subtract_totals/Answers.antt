@@ -18,14 +18,14 @@ module _ (c : ℤ) (h : nat_abs c < 2 ^ 60) where
   complement-small : nat_abs (to_z w64 (2 ^ 64 - 1 - of_z w64 c)) < 2 ^ 61
   complement-small = rw complement-is (omega (arith, nat_abs-+ℤ (neg_ℤ c) (neg_ℤ (pos 1)), nat_abs-neg c))
 
-pub add_totals-requires : goal.add_totals-requires
-add_totals-requires c =
+pub add_up_to_base-requires : goal.add_up_to_base-requires
+add_up_to_base-requires c =
     (c.requires.0, omega arith, c.requires.2, complement-small c.args.b.carry c.requires.3)
 
 pub returns : goal.returns
 returns c =
     let b = c.args.b in
-    let said : c.add_totals.result ≡ split_of (total_of c.args.a +ℤ (to_z w64 (2 ^ 64 - 1 - of_z w64 b.carry) *ℤ pos carry_base +ℤ pos (carry_base - b.residue))) = c.add_totals.ensures in
+    let said : c.add_up_to_base.result ≡ split_of (total_of c.args.a +ℤ (to_z w64 (2 ^ 64 - 1 - of_z w64 b.carry) *ℤ pos carry_base +ℤ pos (carry_base - b.residue))) = c.add_up_to_base.ensures in
     said
     ∙ ap (λ (z : ℤ). split_of (total_of c.args.a +ℤ (z *ℤ pos carry_base +ℤ pos (carry_base - b.residue)))) (complement-is b.carry c.requires.3)
     ∙ ap (λ (z : ℤ). split_of (total_of c.args.a +ℤ z)) (total_opposite b.residue c.requires.1 b.carry)

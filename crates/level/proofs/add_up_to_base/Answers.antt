@@ -1,4 +1,4 @@
--- `add_totals` adds two kept totals: the residues' sum gives the new residue, and its carry goes to the carries.
+-- `add_up_to_base` adds two kept totals: the residues' sum gives the new residue, and its carry goes to the carries.
 use mathlib.Core.Path.{◌≡◌, sym, ap, ap₂, ◌∙◌}
 use Prim.Native.Nat.{ℕ, ◌+◌, ◌/◌, ◌^◌, ◌<◌}
 use native.Mathlib.Omega.{arith}
@@ -10,7 +10,7 @@ use Rattle.level.specs.Carry.{carry_base}
 use Rattle.integers.proofs.Laws.{nat_abs-+ℤ}
 use Rattle.integers.proofs.Width.{bits_back}
 use Rattle.level.proofs.Carry.{split-sum}
-use Rattle.level.proofs.add_totals.Goals as goal
+use Rattle.level.proofs.add_up_to_base.Goals as goal
 
 -- the sum of the two carries, and of that and the residues' carry
 module _ (x y p o : ℤ) (n : ℕ) (hx : nat_abs x < 2 ^ 61) (hy : nat_abs y < 2 ^ 61) (ep : p ≡ to_z w64 (of_z w64 x) +ℤ to_z w64 (of_z w64 y)) (eo : o ≡ pos n) (hn : n < 2 ^ 60) where
