@@ -25,17 +25,10 @@ TO_C = "exports_c"
 # words that stand in more than one place, and what each of them means everywhere
 ONE = {
     # calls and answers
-    "Refused": "a refused call: the case of an answer that carries the refusal, the outcome with its number",
     "Refusal": "a ground for sending work back: the enum of them, and the number in a ground",
     "Outcome": "what a call's conditions fix: the type, and the definition that gives it",
     "Ground": "a line of the table of refusals: the record, and the definition that gives it",
     "Answer": "what a call answers: the type, its values in a list of calls, the clause of a contract, the parameter by which a sum's answer is handed on",
-    "FigureAnswer": "a mill figure's answer: the enum, and what it says as an outcome",
-    "LineAnswer": "a finished line's answer: the enum, and what it says as an outcome",
-    "TableAnswer": "an add's, a removal's, a merge's or a load's answer: the enum, and what it says as an outcome",
-    "TotalsAnswer": "the totals' answer: the enum, and what it says as an outcome",
-    "ExactnessAnswer": "the answer of the question of exactness: the enum, and what it says as an outcome",
-    "OutputAnswer": "the answer of a call that is lent a buffer for its output: the enum, and what it says as an outcome",
     "add": "the call that adds two columns, and its entry in a list of calls",
     "merge": "the call that merges two tables, and its entry in a list of calls",
     "save": "the call that saves a table, and its entry in a list of calls",
@@ -46,17 +39,35 @@ ONE = {
     "exactness": "whether a kept value is known to be exact: the call, and its question",
     "calls": "the calls of a way of working, with or without loads of older files and removals",
     "totals": "how many sections and rows a table has: the call, its question, the case that carries them, the numbers to be printed",
-    "side": "which side of the value that was rounded a number is on: the enum and its fields, Card 2's definition",
-    "write": "puts bytes into a lent buffer: a number's, or a patch file",
-    "look_up": "the record of a section: the function, and the enum of what it finds",
+    "side": "which side of the value that was rounded a number is on: the fields, Card 2's definition",
     "remove": "the call that removes two columns, and its entry in a list of calls",
     "Accounted": "each removal took rows that the table had: the field of an account, and the claim of a table",
     "TooFewRows": "refusal 20 and its condition",
     "RaisesTop": "refusal 21 and its condition",
     "TotalExceeds": "refusal 22 and its condition",
+    "binary_search": "the place of a key: among records in bytes, in a sound table",
+    "bytes": "the bytes that something has: a number in a field, a sound table",
+    "columns": "two columns of rows: the struct, and the parameter",
+    "field": "what holds one number: digits of a float, bytes of a record, the trait of the numbers that fill bytes",
+    "find": "the section of a key: among sections, in a sound table",
+    "is_zero": "whether something is 0: a total, a number in limbs",
+    "left": "what is left over: of a size below a level, of two tables",
+    "new": "what makes a value of a type",
+    "numeral": "a number's digits: the trait of what has one, its definition and its function",
+    "other": "the one beside that which is spoken of: a number, a call",
+    "prelude": "the library's names, in a definition that has the logic's Option too",
+    "read": "takes from bytes what they hold: a number, a patch file's rows",
+    "write": "puts bytes into a lent buffer: a number's, or a patch file",
+    "record": "the 64 bytes of a section by field: the struct, a sound table's by its place",
+    "rounded": "what rounding gives: a quotient, a section's sum",
+    "row_count": "how many rows there are: by a file's trailer, of columns",
+    "sound": "document 01's condition of a table or a record: the definition, and what a type says of its value",
+    "sound_record": "a record that is sound by itself: the condition, and the type",
+    "sound_table": "a table that is sound: the type, and what is known of a table's bytes",
     "hint": "the place that a search tries first",
     "remaining": "what a removal leaves: of a table's sections, and of a record",
     "address": "where a returned part stands",
+    "end": "the place after what is put into a lent buffer",
     "content": "the bytes that the caller has afterwards, of a part returned or of a buffer lent",
     "work": "the work buffer: what is lent, and what it holds after the call",
     "Absent": "a section without a row: the sum's case, and the claim about it",
@@ -64,7 +75,6 @@ ONE = {
     "NotSound": "refusal 7's condition: the sum's case, and the example of it",
     "TooManyKeys": "refusal 12 and its condition",
     "TooManyRows": "refusal 11 and its condition",
-    "NoRoom": "refusal 12's condition, while rows are placed and in an example",
     # files and columns
     "file": "the bytes of a file: of a patch file, or of a saved table",
     "mark": "the four bytes that end a file: a patch file's, and what a trailer is given",
@@ -78,7 +88,6 @@ ONE = {
     "ValueDistance": "the value distance, and the refusal for it",
     "width": "how many bytes a value has: the definition, and the clause of a contract",
     "value_width": "how many bytes a value has: the function, and what a caller is told or tells",
-    "WidthKind": "the kind of value that has some width: the enum, and what it says",
     "fraction": "the fraction's field in the bits of a float: the definition for a double, and what a function is given of a short float",
     "columns_fit": "some row count fits both columns: the definition, the function, the example of it",
     "Row": "a row: the record, and an example of it",
@@ -103,24 +112,24 @@ ONE = {
     "total": "a level's total",
     "split": "a total as residue and carry",
     "nothing": "the total 0",
-    "is_zero": "equal to 0",
     "capacity": "document 01's capacity: the definition and the function that gives it",
     "groups": "a number of groups",
     "group_count": "a table's group count: the clause about it, and the field of a saved table",
     "table": "a table: its bytes as they are lent, the buffer and group count that a list of calls leaves",
     "TableTotals": "how many sections and rows a table has: the struct, and the definition that gives it",
-    "Place": "where a key stands among records: the enum, and the definition that gives it",
-    "last": "the place that the next row tries first",
     "initial": "the bytes in tables' buffers at the start",
-    "Within": "fewer records are left, in their bytes: the record, and the field that has it",
+    "LastTaken": "the last section of the union is taken away: the record, and the field that has it",
+    "first": "the first of two tables: its bytes as they are lent, its field in the pair",
+    "second": "the second of two tables: its bytes as they are lent, its field in the pair",
     "LastSection": "the last section of the union of two tables: the definition, and the claim about it",
     # wide numbers
-    "limbs": "a number in limbs",
     "reduced": "every limb has 40 digits",
     "low_limbs": "each limb but the last has 40 digits",
     "limb3": "the bound of the last limb",
     "same": "the limbs stand for this number",
     "near": "nothing is nearer",
+    # texts
+    "Text": "a text in memory of a fixed size: the struct, and what is printed into",
     # examples
     "computed": "that the definitions give what the examples expect",
     "input": "the file of an example",
@@ -151,15 +160,21 @@ def spec_words(text):
 
 
 def code_words(text):
-    """The names that a file of code declares."""
-    inside = False
+    """The names that a file of code declares. What an impl gives a trait is named where the trait is."""
+    inside, given = False, False
     for line in text.splitlines():
         if line.startswith("}"):
-            inside = False
-        if found := re.match(r"(?:pub )?fn (\w+)", line):
+            inside, given = False, False
+        if re.match(r"impl\b.* for ", line):
+            given = True
+        elif given:
+            continue
+        if found := re.match(r" *(?:pub )?fn (\w+)", line):
             yield found[1]
-        elif found := re.match(r"(?:pub )?(?:struct|enum) (\w+)", line):
-            inside = True
+        elif found := re.match(r"    (?:pub )?ghost (\w+):", line):
+            yield found[1]
+        elif found := re.match(r"(?:pub )?(?:struct|enum|trait) (\w+)", line):
+            inside = line.endswith("{") and " trait " not in f" {line}"
             yield found[1]
         elif found := re.match(r"(?:pub )?(?:const|type) (\w+)", line):
             yield found[1]
@@ -174,8 +189,8 @@ def folded(word):
 
 
 def functions(text):
-    """The functions of a file of code: name, parameters with their types and whether they are written out, and contract."""
-    for found in re.finditer(r"^(?:pub )?(?:extern \"C\" )?fn (\w+)\(([^)]*)\)(.*?)^\{", text, re.M | re.S):
+    """The functions and methods of a file of code: name, parameters with their types and whether they are written out, and contract."""
+    for found in re.finditer(r"^ *(?:pub )?(?:extern \"C\" )?fn (\w+)(?:<[^(]*>)?\(([^)]*)\)(.*?)(?:^ *\{|\{$|;$)", text, re.M | re.S):
         named = re.findall(r"(\w\w+): (&mut |&)?([^,\n]+)", found[2])
         yield found[1], [(word, re.sub(r"^(?:[iu]\d+|usize)$", "a number", kind.strip()), way == "&mut ") for word, way, kind in named], found[3]
 

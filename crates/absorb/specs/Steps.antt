@@ -1,5 +1,5 @@
 -- What the steps of bringing a record in promise each other.
-use Rattle.std.specs.Prelude.{ℕ, ◌≤◌, ◌<◌, ◌≡◌, List, T, length}
+use Rattle.std.specs.Prelude.{Option, Some, None, ℕ, ◌≤◌, ◌<◌, ◌≡◌, List, T, length}
 use Rattle.std.proofs.lemmas.List.Edits.{sets}
 use Rattle.record.specs.declared.Record.{Record}
 use Rattle.record.specs.Layout.{encode, decode}
@@ -7,7 +7,6 @@ use Rattle.record.specs.Sound.{sound}
 use Rattle.record.specs.Section.{Section, sections}
 use Rattle.table.specs.Combine.{absorb}
 use Rattle.absorb.specs.declared.Absorbed.{Absorbed}
-use Rattle.absorb.specs.declared.Absorbed.TheVariants.{Into, NoRoom}
 
 -- the bytes s with the record r written at a place, which is read back from it
 abbrev pub PutAt : List ℕ → ℕ → Record → List ℕ → Type 0
@@ -21,6 +20,6 @@ pub record HoldsSections (ts : List Section) (room : ℕ) (s : List ℕ) (g : �
   pub sound-table : T (sound s g)
 
 -- the section x brought into ts: the bytes s then hold it, or there is no room
-abbrev pub Absorbs : Section → ℕ → List Section → List ℕ → Absorbed → Type 0
-Absorbs x room ts s (Into g i) = HoldsSections (absorb x ts) room s g
-Absorbs x room ts s NoRoom = room < length (absorb x ts)
+abbrev pub Absorbs : Section → ℕ → List Section → List ℕ → Option Absorbed → Type 0
+Absorbs x room ts s (Some a) = HoldsSections (absorb x ts) room s a.groups
+Absorbs x room ts s None = room < length (absorb x ts)

@@ -1,7 +1,7 @@
 // A record, or a row, brought into a table: combined with the record of its key, or inserted in the gap.
 #![tactic(auto)]
 
-ghost use Rattle.std.specs.Prelude.{◌≡◌, true, false, ◌+◌, ◌*◌, ◌≤◌, ◌<◌, T, length};
+ghost use Rattle.std.specs.Prelude.{IfOk, ◌≡◌, true, false, ◌+◌, ◌*◌, ◌≤◌, ◌<◌, T, length};
 ghost use Rattle.lists.specs.Lists.{any_of};
 ghost use Rattle.columns.specs.Columns.{column_row_count, columns_fit, row_at};
 ghost use Rattle.record.specs.Layout.{record_at, records, capacity};
@@ -12,41 +12,51 @@ ghost use Rattle.table.specs.Combine.{of_row, combine, absorb};
 ghost use Rattle.table.specs.Calls.{most_rows, overflows};
 ghost use Rattle.absorb.specs.Steps.{PutAt, Absorbs};
 
-use columns::Kind;
-use record::{Place, Record};
+use codec::Field;
+use columns::Columns;
+use soundness::{SoundRecord, SoundTable};
 
 // The place of a key. The hint is tried first: rows come in runs of one section, and two tables with the same sections are walked side by side.
-pub fn locate(t: &[u8], g: usize, hint: usize, key: u32) -> Place
+// Kept: it asks less than a sound table, so it takes the bytes and the group count.
+pub fn locate(t: &[u8], g: usize, hint: usize, key: u32) -> Result<usize, usize>
     requires { (g * 64 ≤ length t.now) × T (rising (record_keys (records t.now g))) }
     ensures { result ≡ place key (record_keys (records t.now g)) }
 {
     if hint < g {
-        if codec::u32_at(t, hint * 64) == key {
-            return Place::Index(hint);
+        if u32::read(t, hint * 64) == key {
+            return Ok(hint);
         }
     }
     record::binary_search(t, g, key)
 }
 
-// A table that took a section in: its group count, and the place that the next row tries first. A wrong place would cost time alone, so that
+// The same in a sound table: an index that is found is that of one of its records.
+pub fn locate_in(t: SoundTable<'_>, hint: usize, key: u32) -> Result<usize, usize>
+    ensures place { result ≡ place key (record_keys (records t.entry.bytes.now t.entry.groups)) }
+    ensures within { IfOk result (λ i. i < t.entry.groups) }
+{
+    locate(t.bytes, t.groups, hint, key)
+}
+
+// How far the rows of columns are brought in: the table's group count, and the place that the next row tries first. A wrong place would cost time alone, so that
 // nothing is promised of it.
 #[derive(Clone, Copy)]
-pub enum Absorbed {
-    Into { groups: usize, last: usize },
-    NoRoom,
+pub struct Absorbed {
+    pub groups: usize,
+    pub last: usize,
 }
 
 // Record i combined with r. Records of one top, as nearly all are, have a write of their own, from which the compiler leaves
 // the key out, so that the next search need not wait for it. The others are copied for the call, as in table::combined.
-fn combine_at(t: &mut [u8], i: usize, r: Record)
-    requires i_in_bounds { i * 64 + 64 ≤ length t.old }
-    requires t { T (sound_record (record_at t.old (i * 64))) }
-    requires t_2 { T (sound_record r) }
-    requires count_bound { (record_at t.old (i * 64)).count + r.count ≤ most_rows }
-    ensures { PutAt t.old (i * 64) (record_of (combine (meaning (record_at t.old (i * 64))) (meaning r))) t.new }
+fn combine_at(t: &mut [u8], i: usize, r: SoundRecord)
+    requires in_bounds { i * 64 + 64 ≤ length t.old }
+    requires old_sound { T (sound_record (record_at t.old (i * 64))) }
+    requires few_together { (record_at t.old (i * 64)).count + r.raw.count ≤ most_rows }
+    ensures { PutAt t.old (i * 64) (record_of (combine (meaning (record_at t.old (i * 64))) (meaning r.raw))) t.new }
 {
-    let old = record::get(t, i);
-    if old.top == r.top {
+    let raw = record::get(t, i);
+    let old = SoundRecord { raw };
+    if raw.top == r.raw.top {
         record::put(t, i, table::combined_same_top(old, r));
     } else {
         let a = old;
@@ -55,52 +65,48 @@ fn combine_at(t: &mut [u8], i: usize, r: Record)
     }
 }
 
-// The record r brought into a table that may have `room` groups.
-fn absorb_record(t: &mut [u8], g: usize, last: usize, room: usize, r: Record) -> Absorbed
-    requires t { T (sound t.old g) }
-    requires g_le_room { (g ≤ room) × (room ≤ capacity (length t.old)) }
-    requires t_2 { T (sound_record r) }
-    requires g_value { any_of overflows (absorb (meaning r) (sections t.old g)) ≡ false }
-    ensures { Absorbs (meaning r) room (sections t.old g) t.new result }
+// The record r brought into a table that may have `room` groups: how far it is then, if there is room.
+// Kept: the bytes are written, and between two writes they hold no sound table, so that soundness is a clause and no type; so is the room, a number beside them.
+fn absorb_record(t: &mut [u8], so_far: Absorbed, room: usize, r: SoundRecord) -> Option<Absorbed>
+    requires sound_table { T (sound t.old so_far.groups) }
+    requires within_room { (so_far.groups ≤ room) × (room ≤ capacity (length t.old)) }
+    requires no_overflow { any_of overflows (absorb (meaning r.raw) (sections t.old so_far.groups)) ≡ false }
+    ensures { Absorbs (meaning r.raw) room (sections t.old so_far.groups) t.new result }
 {
-    match locate(t, g, last, r.key) {
-        Place::Index(i) => {
+    let groups = so_far.groups;
+    match locate(t, groups, so_far.last, r.raw.key) {
+        Ok(i) => {
             combine_at(t, i, r);
-            Absorbed::Into { groups: g, last: i }
+            Some(Absorbed { groups, last: i })
         }
-        Place::Gap(i) => {
-            if g < room {
-                record::insert(t, g, i, r);
-                return Absorbed::Into {
-                    groups: g + 1,
+        Err(i) => {
+            if groups < room {
+                record::insert(t, groups, i, r.raw);
+                return Some(Absorbed {
+                    groups: groups + 1,
                     last: i,
-                };
+                });
             }
-            Absorbed::NoRoom
+            None
         }
     }
 }
 
 // Row i of the columns brought into the table.
+// Kept: soundness is a clause, as in absorb_record; so it is that the columns fit, since a type for it would be taken apart in every clause.
 pub fn absorb_row(
     t: &mut [u8],
-    g: usize,
-    last: usize,
+    so_far: Absorbed,
     room: usize,
-    keys: &[u8],
-    values: &[u8],
-    kind: Kind,
+    columns: Columns<'_>,
     i: usize,
-) -> Absorbed
-    requires t { T (sound t.old g) }
-    requires g_le_room { (g ≤ room) × (room ≤ capacity (length t.old)) }
-    requires values_value { (columns_fit kind keys.now values.now ≡ true) × (i < column_row_count keys.now) }
-    requires g_value { any_of overflows (absorb (of_row (row_at kind keys.now values.now i)) (sections t.old g)) ≡ false }
-    ensures { Absorbs (of_row (row_at kind keys.now values.now i)) room (sections t.old g) t.new result }
+) -> Option<Absorbed>
+    requires sound_table { T (sound t.old so_far.groups) }
+    requires within_room { (so_far.groups ≤ room) × (room ≤ capacity (length t.old)) }
+    requires within_columns { (columns_fit columns.kind columns.keys.now columns.values.now ≡ true) × (i < column_row_count columns.keys.now) }
+    requires no_overflow { any_of overflows (absorb (of_row (row_at columns.kind columns.keys.now columns.values.now i)) (sections t.old so_far.groups)) ≡ false }
+    ensures { Absorbs (of_row (row_at columns.entry.kind columns.entry.keys.now columns.entry.values.now i)) room (sections t.old so_far.groups) t.new result }
 {
-    let r = table::row_record(
-        codec::u32_at(keys, 4 * i),
-        columns::value_at(values, kind, i),
-    );
-    absorb_record(t, g, last, room, r)
+    let r = table::row_record(columns.key(i), columns.bits(i));
+    absorb_record(t, so_far, room, r)
 }

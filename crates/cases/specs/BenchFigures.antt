@@ -8,7 +8,8 @@ use Rattle.refusal.specs.Outcome.{Outcome, accepted, refused}
 use Rattle.level.specs.Carry.{carry_of, residue_of}
 use Rattle.record.specs.Section.{Section, find}
 use Rattle.table.specs.Combine.{added}
-use Rattle.finish.specs.Finish.{RoundedSum, sum_of, figure_of}
+use Rattle.finish.specs.declared.RoundedSum.{RoundedSum}
+use Rattle.finish.specs.Finish.{sum_of, figure_of}
 
 -- a figure of the bench book
 pub data BenchFigure : Type 0 where

@@ -173,16 +173,6 @@ sets_swap s (x ∷ xs) ys i n e =
     let q : i + n ≡ suc i + length xs = omega arith in
     rw q (ap (λ (l : List ℕ). sets l (suc i) xs) (set_sets s ys (suc i + length xs) i x (omega arith)) ∙ sets_swap (set s i x) xs ys (suc i) (length xs) refl)
 
--- one more of the elements from j on, moved up by d, the last ones first
-pub move_more : (s : List ℕ) (j e d : ℕ) → j < e → e ≤ length s
-    → set (sets s (suc j + d) (take (e - suc j) (drop (suc j) s))) (j + d) (get_or (sets s (suc j + d) (take (e - suc j) (drop (suc j) s))) j 0)
-    ≡ sets s (j + d) (take (e - j) (drop j s))
-move_more s j e d h fits =
-    let X : List ℕ = take (e - suc j) (drop (suc j) s) in
-    let n : e - j ≡ suc (e - suc j) = omega arith in
-    let p : suc j + d ≡ suc (j + d) = omega arith in
-    rw (n, drop-cons s j 0 (omega arith), get_d_sets s X (suc j + d) j 0 (omega arith), set_sets s X (suc j + d) (j + d) (get_or s j 0) (omega arith), p)
-
 -- ---- what follows bytes put in place
 
 -- from where they start

@@ -1,11 +1,34 @@
 // Little-endian numbers at a place of a byte slice.
 #![tactic(auto)]
 
-ghost use Rattle.std.specs.Prelude.{◌≡◌, ◌+◌, ◌-◌, ◌≤◌, ◌<◌, ◌++◌, length, take, drop, replicate};
+ghost use Rattle.std.specs.Prelude.{ℕ, ◌^◌, refl, ◌≡◌, ◌+◌, ◌-◌, ◌≤◌, ◌<◌, ◌++◌, length, take, drop, replicate};
 ghost use Rattle.std.proofs.lemmas.List.Edits.{sets};
 ghost use Rattle.std.specs.Int.{w64};
 ghost use Rattle.std.proofs.Common.{to_z, of_z};
+ghost use Rattle.std.proofs.lemmas.Int.{of_z-to_z};
 ghost use Rattle.codec.specs.Bytes.{bytes, number_at};
+
+// A number that fills a field of so many bytes, the low one first.
+pub trait Field: Copy {
+    ghost width: { ℕ };
+
+    // the value that a field's number stands for, and the number of a value
+    ghost from_number: { ℕ → Self };
+
+    ghost to_number: { Self → ℕ };
+
+    fn read(s: &[u8], at: usize) -> Self
+        requires { at + width ≤ length s.now }
+        ensures { result ≡ from_number (number_at width s.now at) };
+
+    fn write(self, s: &mut [u8], at: usize)
+        requires { at + width ≤ length s.old }
+        ensures { s.new ≡ sets s.old at (bytes width (to_number self)) };
+
+    // What was read from a field is written as it was.
+    // The law doesn't say that what is written is read back: that holds of values that fit alone, and a law is of all numbers.
+    ghost written_back: { (n : ℕ) → n < 256 ^ width → to_number (from_number n) ≡ n };
+}
 
 // The w bytes of x are put in place from at on.
 pub fn write(s: &mut [u8], at: usize, w: usize, x: u64)
@@ -13,77 +36,85 @@ pub fn write(s: &mut [u8], at: usize, w: usize, x: u64)
     ensures { s.new ≡ sets s.old at (bytes w x) }
 {
     let mut y = x;
-    let mut k = 0;
-    while k < w {
+    for k in 0..w {
         s[at + k] = (y % 256) as u8;
         y = y / 256;
-        k += 1;
     }
 }
 
-// Byte by byte and in no loop: so the compiler makes one load of it before it decides what to inline.
-pub fn u32_at(s: &[u8], at: usize) -> u32
-    requires { at + 4 ≤ length s.now }
-    ensures { result ≡ number_at 4 s.now at }
-{
-    let pair = (s[at] as u32) + (s[at + 1] as u32) * 256;
-    pair + (s[at + 2] as u32) * 65536 + (s[at + 3] as u32) * 16777216
-}
+// Read byte by byte and in no loop: so the compiler makes one load of it before it decides what to inline.
+impl Field for u32 {
+    ghost width = { 4 };
 
-pub fn u64_at(s: &[u8], at: usize) -> u64
-    requires { at + 8 ≤ length s.now }
-    ensures { result ≡ number_at 8 s.now at }
-{
-    (u32_at(s, at) as u64) + (u32_at(s, at + 4) as u64) * 4294967296
-}
+    ghost from_number = { λ n. n };
 
-pub fn i64_at(s: &[u8], at: usize) -> i64
-    requires { at + 8 ≤ length s.now }
-    ensures { result ≡ to_z w64 (number_at 8 s.now at) }
-{
-    let x = u64_at(s, at);
-    if x < 9223372036854775808 {
-        x as i64
-    } else {
-        !((18446744073709551615 - x) as i64)
+    ghost to_number = { λ x. x };
+
+    ghost written_back = { λ n h. refl };
+
+    fn read(s: &[u8], at: usize) -> u32 {
+        u32::from_le_bytes([s[at], s[at + 1], s[at + 2], s[at + 3]])
+    }
+
+    fn write(self, s: &mut [u8], at: usize) {
+        s[at..at + 4].copy_from_slice(&self.to_le_bytes());
     }
 }
 
-pub fn put_u32(s: &mut [u8], at: usize, x: u32)
-    requires { at + 4 ≤ length s.old }
-    ensures { s.new ≡ sets s.old at (bytes 4 x) }
-{
-    write(s, at, 4, x as u64)
+// Read in no loop too, for the same reason.
+impl Field for u64 {
+    ghost width = { 8 };
+
+    ghost from_number = { λ n. n };
+
+    ghost to_number = { λ x. x };
+
+    ghost written_back = { λ n h. refl };
+
+    fn read(s: &[u8], at: usize) -> u64 {
+        u64::from_le_bytes([
+            s[at],
+            s[at + 1],
+            s[at + 2],
+            s[at + 3],
+            s[at + 4],
+            s[at + 5],
+            s[at + 6],
+            s[at + 7],
+        ])
+    }
+
+    fn write(self, s: &mut [u8], at: usize) {
+        s[at..at + 8].copy_from_slice(&self.to_le_bytes());
+    }
 }
 
-pub fn put_u64(s: &mut [u8], at: usize, x: u64)
-    requires { at + 8 ≤ length s.old }
-    ensures { s.new ≡ sets s.old at (bytes 8 x) }
-{
-    write(s, at, 8, x)
-}
+// In two's complement.
+impl Field for i64 {
+    ghost width = { 8 };
 
-pub fn put_i64(s: &mut [u8], at: usize, x: i64)
-    requires { at + 8 ≤ length s.old }
-    ensures { s.new ≡ sets s.old at (bytes 8 (of_z w64 x)) }
-{
-    if x < 0 {
-        write(s, at, 8, 18446744073709551615 - (!x as u64))
-    } else {
-        write(s, at, 8, x as u64)
+    ghost from_number = { λ n. to_z w64 n };
+
+    ghost to_number = { λ x. of_z w64 x };
+
+    ghost written_back = { λ n h. of_z-to_z w64 n h };
+
+    fn read(s: &[u8], at: usize) -> i64 {
+        u64::read(s, at).cast_signed()
+    }
+
+    fn write(self, s: &mut [u8], at: usize) {
+        self.cast_unsigned().write(s, at);
     }
 }
 
 // The bytes from a to e move up by d.
+// Kept, as copy and clear are: the library's move under the definition that the callers' proofs speak in.
 pub fn move_up(s: &mut [u8], a: usize, e: usize, d: usize)
     requires { (a ≤ e) × (e + d ≤ length s.old) }
     ensures { s.new ≡ sets s.old (a + d) (take (e - a) (drop a s.old)) }
 {
-    let mut j = e;
-    while a < j {
-        j -= 1;
-        s[j + d] = s[j];
-    }
+    s.copy_within(a..e, a + d);
 }
 
 // The first n bytes of s in the place of d's.
@@ -91,22 +122,14 @@ pub fn copy(d: &mut [u8], s: &[u8], n: usize)
     requires { (n ≤ length d.old) × (n ≤ length s.now) }
     ensures { d.new ≡ take n s.now ++ drop n d.old }
 {
-    let mut i = 0;
-    while i < n {
-        d[i] = s[i];
-        i += 1;
-    }
+    d[..n].copy_from_slice(&s[..n]);
 }
 
 // Zeros over the whole length.
 pub fn clear(s: &mut [u8])
     ensures { s.new ≡ replicate (length s.old) 0 }
 {
-    let mut at = 0;
-    while at < s.len() {
-        s[at] = 0;
-        at += 1;
-    }
+    s.fill(0);
 }
 
 // Zeros from one place up to another.

@@ -11,7 +11,8 @@ use Rattle.refusal.proofs.Outcomes.{not_given}
 use Rattle.columns.specs.declared.Kind.{Kind}
 use Rattle.columns.specs.declared.Kind.TheVariants.{Double}
 use Rattle.columns.specs.Columns.{width, column_row_count}
-use Rattle.patch.specs.File.{kind_of, read_outcome, FileRows, with_kind, file_outcome, key_column, value_column, column, column_start, key_distance, value_distance, address_after}
+use Rattle.patch.specs.declared.FileRows.{FileRows}
+use Rattle.patch.specs.File.{kind_of, read_outcome, with_kind, file_outcome, key_column, value_column, column, column_start, key_distance, value_distance, address_after}
 use Rattle.patch.specs.Serializer.{file_length, write_grounds, write_outcome}
 use Rattle.patch.proofs.WriteOutcome.{write_then_read, write_then_keys, write_then_values, bytes_after}
 use Rattle.patch.proofs.File.{accepted_said}

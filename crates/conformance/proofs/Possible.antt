@@ -12,7 +12,8 @@ use denote.MutBor.{MutBor}
 use Rattle.columns.specs.Columns.{width}
 use Rattle.table.specs.Calls.{cleared, merge_outcome, merge_leaves}
 use Rattle.limbs.specs.Side.{side_number}
-use Rattle.finish.specs.Finish.{RoundedSum, sum_outcome, figure_outcome, line_outcome}
+use Rattle.finish.specs.declared.RoundedSum.{RoundedSum}
+use Rattle.finish.specs.Finish.{sum_outcome, figure_outcome, line_outcome}
 use Rattle.finish.specs.Exact.{exactness_outcome}
 use Rattle.finish.specs.declared.FinishedLine.{FinishedLine}
 use Rattle.totals.specs.declared.TableTotals.{TableTotals}

@@ -13,7 +13,8 @@ use Rattle.output.specs.Output.{output_ground}
 use Rattle.output.proofs.Outputs.{left_front}
 use Rattle.columns.specs.declared.Kind.{Kind}
 use Rattle.columns.specs.Columns.{width, rows_from, columns_fit, rows_of}
-use Rattle.patch.specs.File.{kind_of, read_outcome, FileRows, file_outcome, key_column, value_column}
+use Rattle.patch.specs.declared.FileRows.{FileRows}
+use Rattle.patch.specs.File.{kind_of, read_outcome, file_outcome, key_column, value_column}
 use Rattle.patch.proofs.File.{accepted_only, with_accepted, said_kind, no_rows_columns}
 use Rattle.patch.proofs.Columns.{accepted-rows}
 use Rattle.record.specs.Keys.{rising}

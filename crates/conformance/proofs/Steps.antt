@@ -21,7 +21,8 @@ use Rattle.record.proofs.Found.{find-key}
 use Rattle.finish.specs.declared.FinishedLine.{FinishedLine}
 use Rattle.limbs.specs.Side.{side_number, side_said}
 use Rattle.limbs.proofs.Sides.{side-back}
-use Rattle.finish.specs.Finish.{RoundedSum, sum_for, figure_for, line_for, sum_grounds, figure_grounds, finished_by, finishing, sum_outcome, figure_outcome, line_outcome}
+use Rattle.finish.specs.declared.RoundedSum.{RoundedSum}
+use Rattle.finish.specs.Finish.{sum_for, figure_for, line_for, sum_grounds, figure_grounds, finished_by, finishing, sum_outcome, figure_outcome, line_outcome}
 use Rattle.finish.specs.Exact.{answered_exact, exactness_outcome}
 use Rattle.finish.proofs.Outcomes.{section_given, finished_not, sum-given, line-given, double_back}
 use Rattle.totals.specs.declared.TableTotals.{TableTotals}
@@ -195,7 +196,7 @@ loaded s i f p q eo eb = (
 pub steps : (s : State) (c : Call) (x : Answer) (s' : State) → Called s c x s' → (answer s c ≡ x) × (step s c ≡ s')
 unfolding answer step ask_table
 steps s c x s' (by_add i κs a z e b p l) =
-    let kind = a.1.1.1.1.0 in let ks = a.1.1.0.now in let vs = a.1.1.1.0.now in let len = length a.1.1.1.1.1.0.now in
+    let kind = a.1.1.0.kind in let ks = a.1.1.0.keys.now in let vs = a.1.1.0.values.now in let len = length a.1.1.1.0.now in
     changed s i (λ t g. add_outcome kind t g ks vs len) (λ t g. add_leaves kind t g ks vs len) p l.0 l.1.0
 steps s c x s' (by_girth_add i kind κs a z e b k p l) =
     let t = a.0.now in let g = a.1.0 in let ks = a.1.1.0.now in let vs = a.1.1.1.0.now in let len = length a.1.1.1.1.1.0.now in

@@ -10,13 +10,10 @@ use borrow.Fn.Kinds.{Dens, ended_of, res_t}
 use denote.Triple.Clauses.{AtExit}
 use Rattle.refusal.specs.Outcome.{Outcome, accepted, refused}
 use Rattle.limbs.specs.Side.{side_said}
-use Rattle.output.specs.Output.{output_answer}
 use Rattle.columns.specs.declared.Kind.{Kind}
 use Rattle.columns.specs.declared.Kind.TheVariants.{Double}
-use Rattle.table.specs.Answer.{table_answer}
-use Rattle.finish.specs.Answer.{sum_answer, figure_answer, line_answer}
-use Rattle.finish.specs.Exact.{exactness_answer}
-use Rattle.totals.specs.Answer.{totals_answer}
+use Rattle.refusal.specs.Answer.{outcome_of}
+use Rattle.finish.specs.Answer.{sum_answer}
 use Rattle.history.specs.Calls.{sum, figure, line, exactness, totals, Call, add, merge, ask, save, load, shelved}
 use Rattle.history.specs.Run.{Store, State, set_table, after, file_on, Answer, groups_are, sum_is, figure_is, line_is, exactness_is, totals_are, length_is}
 use Rattle.exports.specs.Width.{kind_of_width}
@@ -92,10 +89,10 @@ flag_said (negsuc n) = refused (suc n)
 
 -- in the state s the call answers x and leaves the state s'; a and e have what is lent and given in the order of the parameters, a at first and e at the end
 pub data Called (s : State) : Call → Answer → State → Type 1 where
-  -- table, group count, keys, values, their kind and work buffer; that the keys hold bytes is not said of a call's arguments
-  by_add : (i : ℕ) (κs : Lfts 4) (a : Dens κs add_kinds.ps) (z : (res_t add_kinds.r κs).Denot) (e : AtExit (ended_of 4 add_kinds.ps add_kinds.r) κs) (b : T (are_bytes a.1.1.0.now))
+  -- table, group count, columns and work buffer; that the keys hold bytes is not said of a call's arguments
+  by_add : (i : ℕ) (κs : Lfts 3) (a : Dens κs add_kinds.ps) (z : (res_t add_kinds.r κs).Denot) (e : AtExit (ended_of 3 add_kinds.ps add_kinds.r) κs) (b : T (are_bytes a.1.1.0.keys.now))
       → Lent (s.tables i) a.0.now a.1.0 → add_reads.Learnt κs a z e
-      → Called s (add i a.1.1.1.1.0 a.1.1.0.now a.1.1.1.0.now b (length a.1.1.1.1.1.0.now)) (groups_are (table_answer z)) (state_left s i (table_answer z) e.0.now)
+      → Called s (add i a.1.1.0.kind a.1.1.0.keys.now a.1.1.0.values.now b (length a.1.1.1.0.now)) (groups_are (outcome_of z)) (state_left s i (outcome_of z) e.0.now)
   -- the exported call is told the width of its values, which is that of a kind
   by_girth_add : (i : ℕ) (kind : Kind) (κs : Lfts 4) (a : Dens κs girth_add_kinds.ps) (z : (res_t girth_add_kinds.r κs).Denot) (e : AtExit (ended_of 4 girth_add_kinds.ps girth_add_kinds.r) κs) (b : T (are_bytes a.1.1.0.now))
       → kind_of_width a.1.1.1.1.0 ≡ some kind → Lent (s.tables i) a.0.now a.1.0 → girth_add_reads.Learnt κs a z e
@@ -107,7 +104,7 @@ pub data Called (s : State) : Call → Answer → State → Type 1 where
   -- the first table and its group count, another one and its group count
   by_merge : (i j : ℕ) (apart : T (not (eqb i j))) (κs : Lfts 2) (a : Dens κs merge_kinds.ps) (z : (res_t merge_kinds.r κs).Denot) (e : AtExit (ended_of 2 merge_kinds.ps merge_kinds.r) κs)
       → Lent (s.tables i) a.0.now a.1.0 → Lent (s.tables j) a.1.1.0.now a.1.1.1.0 → merge_reads.Learnt κs a z e
-      → Called s (merge i j apart) (groups_are (table_answer z)) (state_left s i (table_answer z) e.0.now)
+      → Called s (merge i j apart) (groups_are (outcome_of z)) (state_left s i (outcome_of z) e.0.now)
   by_girth_merge : (i j : ℕ) (apart : T (not (eqb i j))) (κs : Lfts 2) (a : Dens κs girth_merge_kinds.ps) (z : (res_t girth_merge_kinds.r κs).Denot) (e : AtExit (ended_of 2 girth_merge_kinds.ps girth_merge_kinds.r) κs)
       → Lent (s.tables i) a.0.now a.1.0 → Lent (s.tables j) a.1.1.0.now a.1.1.1.0 → girth_merge_reads.Learnt κs a z e
       → Called s (merge i j apart) (groups_are (count_said z)) (state_left s i (count_said z) e.0.now)
@@ -115,11 +112,11 @@ pub data Called (s : State) : Call → Answer → State → Type 1 where
   by_sum : (i : ℕ) (κs : Lfts 1) (a : Dens κs sum_kinds.ps) (z : (res_t sum_kinds.r κs).Denot) (e : AtExit (ended_of 1 sum_kinds.ps sum_kinds.r) κs)
       → Lent (s.tables i) a.0.now a.1.0 → sum_reads.Learnt κs a z e → Called s (ask i (sum a.1.1.0)) (sum_is (sum_answer z)) s
   by_figure : (i : ℕ) (κs : Lfts 1) (a : Dens κs figure_kinds.ps) (z : (res_t figure_kinds.r κs).Denot) (e : AtExit (ended_of 1 figure_kinds.ps figure_kinds.r) κs)
-      → Lent (s.tables i) a.0.now a.1.0 → figure_reads.Learnt κs a z e → Called s (ask i (figure a.1.1.0)) (figure_is (figure_answer z)) s
+      → Lent (s.tables i) a.0.now a.1.0 → figure_reads.Learnt κs a z e → Called s (ask i (figure a.1.1.0)) (figure_is (outcome_of z)) s
   by_line : (i : ℕ) (κs : Lfts 1) (a : Dens κs line_kinds.ps) (z : (res_t line_kinds.r κs).Denot) (e : AtExit (ended_of 1 line_kinds.ps line_kinds.r) κs)
-      → Lent (s.tables i) a.0.now a.1.0 → line_reads.Learnt κs a z e → Called s (ask i (line a.1.1.0)) (line_is (line_answer z)) s
+      → Lent (s.tables i) a.0.now a.1.0 → line_reads.Learnt κs a z e → Called s (ask i (line a.1.1.0)) (line_is (outcome_of z)) s
   by_exactness : (i : ℕ) (κs : Lfts 1) (a : Dens κs exactness_kinds.ps) (z : (res_t exactness_kinds.r κs).Denot) (e : AtExit (ended_of 1 exactness_kinds.ps exactness_kinds.r) κs)
-      → Lent (s.tables i) a.0.now a.1.0 → exactness_reads.Learnt κs a z e → Called s (ask i (exactness a.1.1.0)) (exactness_is (exactness_answer z)) s
+      → Lent (s.tables i) a.0.now a.1.0 → exactness_reads.Learnt κs a z e → Called s (ask i (exactness a.1.1.0)) (exactness_is (outcome_of z)) s
   by_girth_sum : (i : ℕ) (κs : Lfts 3) (a : Dens κs girth_sum_kinds.ps) (z : (res_t girth_sum_kinds.r κs).Denot) (e : AtExit (ended_of 3 girth_sum_kinds.ps girth_sum_kinds.r) κs)
       → Lent (s.tables i) a.0.now a.1.0 → girth_sum_reads.Learnt κs a z e
       → Called s (ask i (sum a.1.1.0)) (sum_is (values_said (record { sum = of_bits binary64 e.1.1.1.0.now; side = side_said e.1.1.1.1.0.now }) z)) s
@@ -133,21 +130,21 @@ pub data Called (s : State) : Call → Answer → State → Type 1 where
       → Lent (s.tables i) a.0.now a.1.0 → girth_exact_reads.Learnt κs a z e → Called s (ask i (exactness a.1.1.0)) (exactness_is (flag_said z)) s
   -- table and group count, and what the exported call writes its two numbers through
   by_totals : (i : ℕ) (κs : Lfts 1) (a : Dens κs totals_kinds.ps) (z : (res_t totals_kinds.r κs).Denot) (e : AtExit (ended_of 1 totals_kinds.ps totals_kinds.r) κs)
-      → Lent (s.tables i) a.0.now a.1.0 → totals_reads.Learnt κs a z e → Called s (ask i totals) (totals_are (totals_answer z)) s
+      → Lent (s.tables i) a.0.now a.1.0 → totals_reads.Learnt κs a z e → Called s (ask i totals) (totals_are (outcome_of z)) s
   by_girth_totals : (i : ℕ) (κs : Lfts 3) (a : Dens κs girth_totals_kinds.ps) (z : (res_t girth_totals_kinds.r κs).Denot) (e : AtExit (ended_of 3 girth_totals_kinds.ps girth_totals_kinds.r) κs)
       → Lent (s.tables i) a.0.now a.1.0 → girth_totals_reads.Learnt κs a z e
       → Called s (ask i totals) (totals_are (values_said (record { groups = e.1.1.0.now; count = e.1.1.1.0.now }) z)) s
   -- table, group count and output
   by_save : (i : ℕ) (κs : Lfts 2) (a : Dens κs save_kinds.ps) (z : (res_t save_kinds.r κs).Denot) (e : AtExit (ended_of 2 save_kinds.ps save_kinds.r) κs)
       → Lent (s.tables i) a.0.now a.1.0 → save_reads.Learnt κs a z e
-      → Called s (save i (length a.1.1.0.now)) (length_is (output_answer z)) (shelf_left s (output_answer z) e.1.1.0.now)
+      → Called s (save i (length a.1.1.0.now)) (length_is (outcome_of z)) (shelf_left s (outcome_of z) e.1.1.0.now)
   by_girth_save : (i : ℕ) (κs : Lfts 2) (a : Dens κs girth_save_kinds.ps) (z : (res_t girth_save_kinds.r κs).Denot) (e : AtExit (ended_of 2 girth_save_kinds.ps girth_save_kinds.r) κs)
       → Lent (s.tables i) a.0.now a.1.0 → girth_save_reads.Learnt κs a z e
       → Called s (save i (length a.1.1.0.now)) (length_is (count_said z)) (shelf_left s (count_said z) e.1.1.0.now)
   -- the file with the number n, and the bytes of a table
   by_load : (i n : ℕ) (κs : Lfts 2) (a : Dens κs load_kinds.ps) (z : (res_t load_kinds.r κs).Denot) (e : AtExit (ended_of 2 load_kinds.ps load_kinds.r) κs)
       → file_on s.shelf n ≡ a.0.now → (s.tables i).buffer ≡ a.1.0.now → load_reads.Learnt κs a z e
-      → Called s (load i n) (groups_are (table_answer z)) (state_left s i (table_answer z) e.1.0.now)
+      → Called s (load i n) (groups_are (outcome_of z)) (state_left s i (outcome_of z) e.1.0.now)
   by_girth_load : (i n : ℕ) (κs : Lfts 2) (a : Dens κs girth_load_kinds.ps) (z : (res_t girth_load_kinds.r κs).Denot) (e : AtExit (ended_of 2 girth_load_kinds.ps girth_load_kinds.r) κs)
       → file_on s.shelf n ≡ a.0.now → (s.tables i).buffer ≡ a.1.0.now → girth_load_reads.Learnt κs a z e
       → Called s (load i n) (groups_are (count_said z)) (state_left s i (count_said z) e.1.0.now)

@@ -5,9 +5,8 @@ use contract.Lifetimes.{Lfts}
 use borrow.Fn.Kinds.{Dens, ended_of, res_t}
 use denote.Triple.Clauses.{AtExit}
 use Rattle.refusal.specs.Outcome.{accepted}
-use Rattle.output.specs.Output.{output_answer}
 use Rattle.record.specs.Layout.{records}
-use Rattle.table.specs.Answer.{table_answer}
+use Rattle.refusal.specs.Answer.{outcome_of}
 use Rattle.checkpoint.specs.Calls.{save_outcome, save_leaves, load_outcome, load_leaves}
 use Rattle.exports.specs.Calls.{returns_count}
 use Rattle.conformance.specs.Called.{count_said}
@@ -23,11 +22,11 @@ use Rattle.exports.proofs.girth_load.Kinds as girth_load_kinds
 -- a save's a has table, group count and output, a load's b has file and table; e and f have the same at the end of the call
 pub record Checkpoints : Type 1 where
   pub of_save : (κs : Lfts 2) (a : Dens κs save_kinds.ps) (z : (res_t save_kinds.r κs).Denot) (e : AtExit (ended_of 2 save_kinds.ps save_kinds.r) κs) → save_reads.Learnt κs a z e
-      → (output_answer z ≡ save_outcome a.0.now a.1.0 (length a.1.1.0.now)) × (e.1.1.0.now ≡ save_leaves a.0.now a.1.0 a.1.1.0.now)
+      → (outcome_of z ≡ save_outcome a.0.now a.1.0 (length a.1.1.0.now)) × (e.1.1.0.now ≡ save_leaves a.0.now a.1.0 a.1.1.0.now)
   pub of_girth_save : (κs : Lfts 2) (a : Dens κs girth_save_kinds.ps) (z : (res_t girth_save_kinds.r κs).Denot) (e : AtExit (ended_of 2 girth_save_kinds.ps girth_save_kinds.r) κs) → girth_save_reads.Learnt κs a z e
       → (z ≡ returns_count (save_outcome a.0.now a.1.0 (length a.1.1.0.now))) × (e.1.1.0.now ≡ save_leaves a.0.now a.1.0 a.1.1.0.now)
   pub of_load : (κs : Lfts 2) (b : Dens κs load_kinds.ps) (z : (res_t load_kinds.r κs).Denot) (f : AtExit (ended_of 2 load_kinds.ps load_kinds.r) κs) → load_reads.Learnt κs b z f
-      → (table_answer z ≡ load_outcome b.0.now (length b.1.0.now)) × (f.1.0.now ≡ load_leaves b.0.now b.1.0.now)
+      → (outcome_of z ≡ load_outcome b.0.now (length b.1.0.now)) × (f.1.0.now ≡ load_leaves b.0.now b.1.0.now)
   pub of_girth_load : (κs : Lfts 2) (b : Dens κs girth_load_kinds.ps) (z : (res_t girth_load_kinds.r κs).Denot) (f : AtExit (ended_of 2 girth_load_kinds.ps girth_load_kinds.r) κs) → girth_load_reads.Learnt κs b z f
       → (z ≡ returns_count (load_outcome b.0.now (length b.1.0.now))) × (f.1.0.now ≡ load_leaves b.0.now b.1.0.now)
   -- the first bytes of the output, as many as a save answers, loaded into any table with room: g is answered, the records are the same, to the byte, and the bytes

@@ -6,7 +6,8 @@ use borrow.Fn.Kinds.{Dens, ended_of, res_t}
 use denote.Triple.Clauses.{AtExit}
 use Rattle.finish.specs.declared.FinishedLine.{FinishedLine}
 use Rattle.limbs.specs.Side.{side_number}
-use Rattle.finish.specs.Finish.{RoundedSum, sum_outcome, figure_outcome, line_outcome}
+use Rattle.finish.specs.declared.RoundedSum.{RoundedSum}
+use Rattle.finish.specs.Finish.{sum_outcome, figure_outcome, line_outcome}
 use Rattle.finish.specs.Exact.{exactness_outcome}
 use Rattle.totals.specs.declared.TableTotals.{TableTotals}
 use Rattle.totals.specs.Totals.{totals_outcome}

@@ -6,7 +6,8 @@ use denote.Triple.Clauses.{AtExit}
 use Rattle.codec.specs.Cells.{image}
 use Rattle.refusal.specs.Outcome.{Outcome, accepted, refused}
 use Rattle.columns.specs.Columns.{Row, rows_of}
-use Rattle.patch.specs.File.{kind_of, FileRows, file_outcome, key_column, value_column}
+use Rattle.patch.specs.declared.FileRows.{FileRows}
+use Rattle.patch.specs.File.{kind_of, file_outcome, key_column, value_column}
 use Rattle.table.specs.Calls.{add_outcome}
 use Rattle.report.specs.Text.{head_line, refusal_text, line_feed, line_text, total_line, table_bytes, empty_table, report_text}
 use Rattle.history.specs.Rows.{rows_totals}

@@ -7,7 +7,7 @@ use denote.Triple.Clauses.{AtExit}
 use Rattle.refusal.specs.Outcome.{accepted}
 use Rattle.level.specs.Level.{exact_sum}
 use Rattle.record.specs.Section.{Section, find, kept}
-use Rattle.table.specs.Answer.{table_answer}
+use Rattle.refusal.specs.Answer.{outcome_of}
 use Rattle.history.specs.Rows.{section_bits}
 use Rattle.history.specs.Calls.{exactness, Call, ask}
 use Rattle.history.specs.Run.{State, no_groups, file_on, Answer, groups_are, exactness_is}
@@ -26,7 +26,7 @@ pub data CalledOlder (s : State) : OlderCall → Answer → State → Type 1 whe
   -- the file with the number n as an older version wrote it, and the bytes of a table
   by_older_load : (i n : ℕ) (κs : Lfts 2) (a : Dens κs load_kinds.ps) (z : (res_t load_kinds.r κs).Denot) (e : AtExit (ended_of 2 load_kinds.ps load_kinds.r) κs)
       → older_file (file_on s.shelf n) ≡ a.0.now → (s.tables i).buffer ≡ a.1.0.now → load_reads.Learnt κs a z e
-      → CalledOlder s (load-older i n) (groups_are (table_answer z)) (state_left s i (table_answer z) e.1.0.now)
+      → CalledOlder s (load-older i n) (groups_are (outcome_of z)) (state_left s i (outcome_of z) e.1.0.now)
   by_girth_older_load : (i n : ℕ) (κs : Lfts 2) (a : Dens κs girth_load_kinds.ps) (z : (res_t girth_load_kinds.r κs).Denot) (e : AtExit (ended_of 2 girth_load_kinds.ps girth_load_kinds.r) κs)
       → older_file (file_on s.shelf n) ≡ a.0.now → (s.tables i).buffer ≡ a.1.0.now → girth_load_reads.Learnt κs a z e
       → CalledOlder s (load-older i n) (groups_are (count_said z)) (state_left s i (count_said z) e.1.0.now)

@@ -7,17 +7,16 @@ use Rattle.columns.specs.declared.Kind.TheVariants.{Double, Single}
 use Rattle.record.specs.Sound.{sound}
 use Rattle.table.specs.Calls.{add_outcome, add_leaves}
 use Rattle.remove.specs.Calls.{remove_outcome, remove_leaves}
-use Rattle.exports.specs.declared.WidthKind.{WidthKind}
-use Rattle.exports.specs.declared.WidthKind.TheVariants.{Of, Unknown}
+use Rattle.std.specs.Prelude as prelude
 
 -- the kind of value that has so many bytes
 abbrev pub kind_of_width : ℕ → Option Kind
 kind_of_width w = cond (eqb w 8) (some Double) (cond (eqb w 4) (some Single) none)
 
 -- what each answer says of a width
-abbrev pub width_kind : WidthKind → Option Kind
-width_kind (Of kind) = some kind
-width_kind Unknown = none
+abbrev pub width_kind : prelude.Option Kind → Option Kind
+width_kind (prelude.Some kind) = some kind
+width_kind prelude.None = none
 
 -- the outcome of a call with values of no kind: 9 is given for them, after 7 and 8, whatever the columns are
 abbrev pub no_kind_outcome : List ℕ → ℕ → ℕ → Outcome ℕ

@@ -1,18 +1,16 @@
 // The public calls for other languages, which crate exports_c gives to C under the same names. A call returns a number of at least 0, or minus the refusal's number; further numbers go
 // out through references, and are 0 when the call is refused.
+// Kept: numbers for refusals and widths, and a table as its bytes and a group count, are the C interface.
 #![tactic(auto)]
 
 ghost use Rattle.std.specs.Prelude.{◌≡◌, [], ℕ, ◌≤◌, ◌<◌, ◌^◌, pos, neg_ℤ, length};
-ghost use Rattle.std.proofs.Math.Option.{none};
 ghost use Rattle.refusal.specs.Number.{number_of};
 ghost use Rattle.refusal.specs.Outcome.{accepted};
-ghost use Rattle.output.specs.Output.{output_answer};
+ghost use Rattle.refusal.specs.Answer.{outcome_of};
 ghost use Rattle.columns.specs.Columns.{width};
 ghost use Rattle.patch.specs.File.{kind_of, file_outcome, key_start, value_start};
 ghost use Rattle.patch.specs.Serializer.{write_outcome, write_leaves};
-ghost use Rattle.record.specs.Layout.{most_groups};
 ghost use Rattle.table.specs.Calls.{cleared, merge_outcome, merge_leaves};
-ghost use Rattle.table.specs.Answer.{table_answer};
 ghost use Rattle.limbs.specs.Side.{side_number};
 ghost use Rattle.finish.specs.Finish.{sum_outcome, figure_outcome, line_outcome};
 ghost use Rattle.finish.specs.Exact.{exactness_outcome};
@@ -23,20 +21,14 @@ ghost use Rattle.report.specs.Answer.{print_outcome, print_leaves};
 ghost use Rattle.exports.specs.Width.{kind_of_width, width_kind, no_kind_outcome, add_of_width, add_of_width_leaves, remove_of_width, remove_of_width_leaves};
 ghost use Rattle.exports.specs.Calls.{returned, returns_count, returns_zero, returns_flag, writes, double_bits};
 
-use columns::Kind;
-use finish::{ExactnessAnswer, FigureAnswer, LineAnswer, SectionSum};
-use limbs::Side;
-use output::OutputAnswer;
-use patch::Reading;
+use columns::{Columns, Kind};
 use refusal::Refusal;
-use table::TableAnswer;
-use totals::TotalsAnswer;
 
 // Minus a refusal's number.
 fn minus(r: Refusal) -> i64
     ensures { result ≡ neg_ℤ (pos (number_of r)) }
 {
-    level::with_sign(true, refusal::number_of(r) as u64)
+    level::with_sign(true, u32::from(r) as u64)
 }
 
 // The row count of a patch file, where its columns start, and how many bytes each of its values has.
@@ -52,40 +44,34 @@ pub fn girth_read(file: &[u8], keys_at: &mut u64, values_at: &mut u64, value_wid
     *values_at = value_start;
     *value_width = 0;
     match patch::read(file) {
-        Reading::Rows { count, kind } => {
-            *value_width = columns::value_width(kind) as u64;
-            count as i64
+        Ok(rows) => {
+            *value_width = columns::value_width(rows.kind) as u64;
+            rows.count as i64
         }
-        Reading::Refused(r) => minus(r),
+        Err(r) => minus(r),
     }
 }
 
-// The group count that an add, a removal, a merge or a load answers, or minus the refusal's number.
-fn groups_or_minus(a: TableAnswer) -> i64
-    requires { (g : ℕ) → table_answer a ≡ accepted g → g ≤ most_groups }
-    ensures { result ≡ returns_count (table_answer a) }
+// The count that a call answers, of groups or of bytes written, or minus the refusal's number.
+fn count_or_minus(a: Result<usize, Refusal>) -> i64
+    requires { (n : ℕ) → outcome_of a ≡ accepted n → n < 2 ^ 63 }
+    ensures { result ≡ returns_count (outcome_of a) }
 {
     match a {
-        TableAnswer::Groups(g) => g as i64,
-        TableAnswer::Refused(r) => minus(r),
+        Ok(n) => n as i64,
+        Err(r) => minus(r),
     }
 }
 
-// The kind of value that has some width, if there is one.
-#[derive(Clone, Copy)]
-enum WidthKind {
-    Of(Kind),
-    Unknown,
-}
-
-// The kind of value that has so many bytes.
-fn kind_of_width(value_width: u64) -> WidthKind
+// The kind of value that has so many bytes, if there is one.
+// Kept: as a TryFrom it would have an error type of its own for one number, and be no plainer.
+fn kind_of_width(value_width: u64) -> Option<Kind>
     ensures { width_kind result ≡ kind_of_width value_width }
 {
     match value_width {
-        8 => WidthKind::Of(Kind::Double),
-        4 => WidthKind::Of(Kind::Single),
-        _ => WidthKind::Unknown,
+        8 => Some(Kind::Double),
+        4 => Some(Kind::Single),
+        _ => None,
     }
 }
 
@@ -96,16 +82,12 @@ fn refuse_unknown_width(table: &mut [u8], g: u64, work: &mut [u8]) -> i64
     ensures work { work.new ≡ cleared work.old }
 {
     let unfit = [0u8; 1];
-    groups_or_minus(add::add(table, g as usize, &unfit, &unfit, Kind::Double, work))
-}
-
-// An add whose values have a width of no kind: as with any other columns that no row count fits, 7 and 8 go before 9.
-fn add_of_unknown_width(table: &mut [u8], g: u64, work: &mut [u8]) -> i64
-    ensures answer { result ≡ returns_count (add_of_width none table.old g [] [] (length work.old)) }
-    ensures content { table.new ≡ table.old }
-    ensures work { work.new ≡ cleared work.old }
-{
-    refuse_unknown_width(table, g, work)
+    let unfit_columns = Columns {
+        keys: &unfit,
+        values: &unfit,
+        kind: Kind::Double,
+    };
+    count_or_minus(add::add(table, g as usize, unfit_columns, work))
 }
 
 // Adds the rows of two columns to a table of g records, each value having so many bytes. The work buffer holds only zeros afterwards.
@@ -122,10 +104,11 @@ pub fn girth_add(
     ensures work { work.new ≡ cleared work.old }
 {
     match kind_of_width(value_width) {
-        WidthKind::Of(kind) => {
-            groups_or_minus(add::add(table, g as usize, keys, values, kind, work))
+        Some(kind) => {
+            let added = Columns { keys, values, kind };
+            count_or_minus(add::add(table, g as usize, added, work))
         }
-        WidthKind::Unknown => add_of_unknown_width(table, g, work),
+        None => refuse_unknown_width(table, g, work),
     }
 }
 
@@ -143,10 +126,11 @@ pub fn girth_remove(
     ensures work { work.new ≡ cleared work.old }
 {
     match kind_of_width(value_width) {
-        WidthKind::Of(kind) => {
-            groups_or_minus(remove::remove(table, g as usize, keys, values, kind, work))
+        Some(kind) => {
+            let removed = Columns { keys, values, kind };
+            count_or_minus(remove::remove(table, g as usize, removed, work))
         }
-        WidthKind::Unknown => refuse_unknown_width(table, g, work),
+        None => refuse_unknown_width(table, g, work),
     }
 }
 
@@ -155,18 +139,7 @@ pub fn girth_merge(first: &mut [u8], g1: u64, second: &[u8], g2: u64) -> i64
     ensures answer { result ≡ returns_count (merge_outcome first.old g1 second.now g2) }
     ensures content { first.new ≡ merge_leaves first.old g1 second.now g2 }
 {
-    groups_or_minus(merge::merge(first, g1 as usize, second, g2 as usize))
-}
-
-// A side as -1, 0 or 1.
-fn side_number(side: Side) -> i64
-    ensures { result ≡ side_number side }
-{
-    match side {
-        Side::Less => -1,
-        Side::Equal => 0,
-        Side::Greater => 1,
-    }
+    count_or_minus(merge::merge(first, g1 as usize, second, g2 as usize))
 }
 
 // The sum of a section, as 64 bits, and its side of the kept value.
@@ -177,15 +150,13 @@ pub fn girth_sum(table: &[u8], g: u64, key: u32, bits: &mut u64, side: &mut i64)
 {
     *bits = 0;
     *side = 0;
-    match finish::sum(table, g as usize, key) {
-        SectionSum::Finite(x, d) => {
-            *bits = f64::to_bits(x);
-            *side = side_number(d);
+    match finish::sum(table, g as usize, key).rounded() {
+        Ok(x) => {
+            *bits = f64::to_bits(x.sum);
+            *side = x.side as i64;
             0
         }
-        SectionSum::Absent => minus(Refusal::SectionAbsent),
-        SectionSum::TooLarge => minus(Refusal::SumTooLarge),
-        SectionSum::NotSound => minus(Refusal::TableNotSound),
+        Err(r) => minus(r),
     }
 }
 
@@ -196,11 +167,11 @@ pub fn girth_figure(table: &[u8], g: u64, key: u32, figure: &mut i64) -> i64
 {
     *figure = 0;
     match finish::figure(table, g as usize, key) {
-        FigureAnswer::Figure(z) => {
+        Ok(z) => {
             *figure = z as i64;
             0
         }
-        FigureAnswer::Refused(r) => minus(r),
+        Err(r) => minus(r),
     }
 }
 
@@ -225,15 +196,14 @@ pub fn girth_line(
     *figure = 0;
     *side = 0;
     match finish::line(table, g as usize, key) {
-        LineAnswer::Line(l) => {
+        Ok(l) => {
             *count = l.count as u64;
             *bits = f64::to_bits(l.sum);
             *figure = l.figure as i64;
-            let d = l.side;
-            *side = side_number(d);
+            *side = l.side as i64;
             0
         }
-        LineAnswer::Refused(r) => minus(r),
+        Err(r) => minus(r),
     }
 }
 
@@ -242,9 +212,8 @@ pub fn girth_exact(table: &[u8], g: u64, key: u32) -> i64
     ensures { result ≡ returns_flag (exactness_outcome table.now g key) }
 {
     match finish::exactness(table, g as usize, key) {
-        ExactnessAnswer::Exact => 1,
-        ExactnessAnswer::NotKnown => 0,
-        ExactnessAnswer::Refused(r) => minus(r),
+        Ok(exact) => i64::from(exact),
+        Err(r) => minus(r),
     }
 }
 
@@ -257,23 +226,12 @@ pub fn girth_totals(table: &[u8], g: u64, sections: &mut u64, rows: &mut u64) ->
     *sections = 0;
     *rows = 0;
     match totals::totals(table, g as usize) {
-        TotalsAnswer::Totals(t) => {
+        Ok(t) => {
             *sections = t.groups;
             *rows = t.count;
             0
         }
-        TotalsAnswer::Refused(r) => minus(r),
-    }
-}
-
-// The length of what was written to a lent buffer, or minus the refusal's number.
-fn length_or_minus(a: OutputAnswer) -> i64
-    requires { (n : ℕ) → output_answer a ≡ accepted n → n < 2 ^ 63 }
-    ensures { result ≡ returns_count (output_answer a) }
-{
-    match a {
-        OutputAnswer::Length(n) => n as i64,
-        OutputAnswer::Refused(r) => minus(r),
+        Err(r) => minus(r),
     }
 }
 
@@ -282,7 +240,7 @@ pub fn girth_write(keys: &[u8], values: &[u8], out: &mut [u8]) -> i64
     ensures answer { result ≡ returns_count (write_outcome keys.now values.now (length out.old)) }
     ensures content { out.new ≡ write_leaves keys.now values.now out.old }
 {
-    length_or_minus(patch::write(keys, values, out))
+    count_or_minus(patch::write(keys, values, out))
 }
 
 // The file of a table of g records, at the front of out: its length, or minus the refusal's number.
@@ -290,7 +248,7 @@ pub fn girth_save(table: &[u8], g: u64, out: &mut [u8]) -> i64
     ensures answer { result ≡ returns_count (save_outcome table.now g (length out.old)) }
     ensures content { out.new ≡ save_leaves table.now g out.old }
 {
-    length_or_minus(checkpoint::save(table, g as usize, out))
+    count_or_minus(checkpoint::save(table, g as usize, out))
 }
 
 // The records of a saved table, at the front of a lent one: their group count, or minus the refusal's number.
@@ -298,7 +256,7 @@ pub fn girth_load(file: &[u8], table: &mut [u8]) -> i64
     ensures answer { result ≡ returns_count (load_outcome file.now (length table.old)) }
     ensures content { table.new ≡ load_leaves file.now table.old }
 {
-    groups_or_minus(checkpoint::load(file, table))
+    count_or_minus(checkpoint::load(file, table))
 }
 
 // The report of a patch file, at the front of out: the length of its text, or -16 where out is shorter.
@@ -306,5 +264,5 @@ pub fn girth_report(file: &[u8], out: &mut [u8]) -> i64
     ensures answer { result ≡ returns_count (print_outcome out.old (report_text file.now)) }
     ensures content { out.new ≡ print_leaves out.old (report_text file.now) }
 {
-    length_or_minus(report::report(file, out))
+    count_or_minus(report::report(file, out))
 }

@@ -1,4 +1,5 @@
 // The C functions of the archive: each is the call of crate exports of the same name, with its clauses again. A slice crosses as a pointer and a length.
+// Kept beside crate exports, which Rattle programs call: only a static library gives functions to C.
 #![tactic(auto)]
 
 ghost use Rattle.std.specs.Prelude.{◌≡◌, pos, length};

@@ -3,14 +3,14 @@
 use mathlib.Core.Path.{◌≡◌, sym, ap, ap₂, ◌∙◌}
 use mathlib.Core.Bool.{Bool, true, false, cond}
 use Prim.Native.Nat.{ℕ, ◌+◌, ◌-◌, ◌*◌, ◌/◌, ◌%◌, ◌^◌, ◌≤◌, ◌<◌, compare, Ordering}
-use native.Mathlib.Nat.{le_trans, mul-le-mul_right, le-div_iff_mul-le}
+use native.Mathlib.Nat.{le_trans, lt_of_not-le, mul-le-mul_right, le-div_iff_mul-le}
 use native.Mathlib.Omega.{arith}
 use borrow.Author.Tests.{le-ltb, lt-ltb}
 use lib.Dec.{lit<, lit≤}
 use lib.Pow.{pow_pos, pow_mono}
 use lib.IntN.{ℤ, pos, ◌-ℤ◌}
 use mir.Syntax.{w32}
-use mir.Val.{to_z, of_z}
+use mir.Val.{SFits, to_z, of_z}
 use mir.ValLaws.{to_z_pos}
 use Rattle.integers.proofs.Width.{minus-back}
 use Rattle.refusal.specs.Outcome.{Outcome, accepted, refused}
@@ -66,13 +66,15 @@ figure_in_range : (s : Bool) (n : ℕ) → n ≤ largest_figure → accepted (si
 unfolding beyond
 figure_in_range s n h = rw (nat_abs-signed s n, le-ltb largest_figure n h)
 
--- ---- a figure as an i32
+-- ---- a figure as an i32: z is the size n
 
-pub i32_lt : (n : ℕ) → n ≤ largest_figure → n < 2 ^ 31
-i32_lt n h = omega arith
+module _ (s : Bool) (n : ℕ) where
+  pub figure_too_large : (SFits w32 (pos n) → ⊥) → refused 15 ≡ ranged_figure (signed s n)
+  figure_too_large h = figure-beyond s n (lt_of_not-le (λ (l : n ≤ largest_figure). h (record { sfits = omega arith })))
 
-pub figure-plus : (s : Bool) (n : ℕ) → n ≤ largest_figure → s ≡ false → accepted (to_z w32 n) ≡ ranged_figure (signed s n)
-figure-plus s n h e = ap accepted (to_z_pos w32 n (i32_lt n h) ∙ ap (λ (t : Bool). signed t n) (sym e)) ∙ figure_in_range s n h
+  module _ (z : ℤ) (f : SFits w32 (pos n)) (e : z ≡ pos n) where
+    pub figure-plus : s ≡ false → accepted (to_z w32 (of_z w32 z)) ≡ ranged_figure (signed s n)
+    figure-plus t = rw (e, t) (ap accepted (to_z_pos w32 n f.sfits) ∙ figure_in_range false n (omega (arith, f.sfits)))
 
-pub figure-minus : (s : Bool) (n : ℕ) → n ≤ largest_figure → s ≡ true → accepted (to_z w32 (of_z w32 (pos 0 -ℤ to_z w32 n))) ≡ ranged_figure (signed s n)
-figure-minus s n h e = ap accepted (minus-back w32 n (i32_lt n h) ∙ ap (λ (t : Bool). signed t n) (sym e)) ∙ figure_in_range s n h
+    pub figure-minus : s ≡ true → accepted (to_z w32 (of_z w32 (pos 0 -ℤ to_z w32 (of_z w32 z)))) ≡ ranged_figure (signed s n)
+    figure-minus t = rw (e, t) (ap accepted (minus-back w32 n f.sfits) ∙ figure_in_range true n (omega (arith, f.sfits)))

@@ -2,6 +2,7 @@
 pub mod Whole
 pub mod Limit
 pub mod Sums
+pub mod Distance
 pub mod Nearest
 pub mod Sides
 pub mod Hundredths

@@ -1,32 +1,34 @@
 -- The figure and the line, from the sum; and what an outcome of finishing says of the table. The idea: sum, figure and line differ only in their conditions and
 -- values, so that each case split (by the kept value's size, by the table and the section, by a lookup) serves all three.
-use mathlib.Core.Path.{◌≡◌, refl, sym, ap, ◌∙◌, subst}
+use mathlib.Core.Path.{◌≡◌, refl, sym, ap, ◌∙◌}
 use mathlib.Core.Bool.{Bool, true, false, not, cond}
 use mathlib.Core.List.{List, [], ◌∷◌}
+use mathlib.Core.Logic.{inl, inr}
+use Rattle.std.specs.Prelude.{Result, Ok, Err}
 use mathlib.Core.Option.{Option, none, some}
 use Prim.Native.Nat.{ℕ}
 use lib.Dec.{T, eqb}
 use lib.IntN.{ℤ}
 use lib.Ieee.{binary64, of_bits, to_bits}
-use lib.Ieee.Bits.{of_bits-to_bits}
+use lib.Ieee.Bits.{of_bits-to_bits, is_true}
 use lib.Ieee.Scale.{finite}
-use Rattle.lists.proofs.Booleans.{never}
 use Rattle.refusal.specs.Outcome.{Outcome, accepted, refused, Ground, ground, outcome, condition, IsLowest, rising_from, is_refusal, is_ground}
 use Rattle.refusal.proofs.Outcomes.{accepted≢refused, accepted_not, accepted-value, lowest, refused_alike, not_given}
-use Rattle.record.specs.Sound.{sound, sound_record}
+use Rattle.record.specs.Sound.{sound}
 use Rattle.record.specs.Section.{Section, kept, meaning, sections, find}
 use Rattle.finish.specs.Sum.{nearest_double, too_large}
 use Rattle.finish.specs.Figure.{beyond}
 use Rattle.finish.specs.Side.{side}
 use Rattle.finish.specs.Finish.{RoundedSum, double_for, sum_for, figure_for, line_for, sum_grounds, figure_grounds, finished_by, found_grounds, finishing_grounds, sum_of, figure_of, line_of, finishing, sum_outcome, figure_outcome, line_outcome}
 use Rattle.finish.specs.Answer.{sum_answer}
-use Rattle.finish.specs.Steps.{LookedUp, kept_sum, FiniteSum, figure_by, line_by}
-use Rattle.record.specs.declared.Record.{Record}
+use Rattle.finish.specs.Steps.{LookedUp, kept_sum, FiniteSum, figure_by}
+use Rattle.soundness.specs.declared.sound.SoundRecord.{SoundRecord}
+use Rattle.refusal.specs.declared.Refusal.{Refusal}
+use Rattle.refusal.specs.declared.Refusal.TheVariants.{SectionAbsent}
+use Rattle.refusal.specs.Number.{number_of}
 use Rattle.finish.specs.declared.FinishedLine.{FinishedLine}
-use Rattle.finish.specs.declared.Lookup.{Lookup}
-use Rattle.finish.specs.declared.Lookup.TheVariants.{Found, Missing, Unsound}
 use Rattle.finish.specs.declared.SectionSum.{SectionSum}
-use Rattle.finish.specs.declared.SectionSum.TheVariants.{Finite, Absent, TooLarge, NotSound}
+use Rattle.finish.specs.declared.SectionSum.TheVariants.{Finite, TooLarge}
 use Rattle.finish.proofs.Sums.{double_fits, double_finite}
 
 -- ---- by whether the kept value is too large; where it is not, its sum is finite
@@ -51,9 +53,6 @@ finite_for k = by_size k (λ (b : Bool). FiniteSum (cond b TooLarge (Finite (nea
 pub figure_by_lem : (s : Section) → figure_of (some s) ≡ figure_by (sum_of (some s))
 figure_by_lem s = by_size (kept s) (λ (b : Bool). cond b (refused 14) (outcome (ground 15 (beyond (figure_for s)) ∷ []) (figure_for s)) ≡ figure_by (sum_by s b)) refl (λ f. refl)
 
-pub line_by_lem : (s : Section) → line_of (some s) ≡ line_by s.key s.count (sum_of (some s))
-line_by_lem s = by_size (kept s) (λ (b : Bool). cond b (refused 14) (outcome (ground 15 (beyond (figure_for s)) ∷ []) (line_for s)) ≡ line_by s.key s.count (sum_by s b)) refl (λ f. refl)
-
 -- ---- what an accepted sum and an accepted line say
 
 pub record SumGiven (s : Section) (x : RoundedSum) : Type 0 where
@@ -66,6 +65,10 @@ sum-given s x e =
     let q = accepted-value (sum_grounds s) (sum_for s) e in
     let l = accepted_not 14 (sum_grounds s) (sum_for s) e in
     record { is = q; small = l; finite_sum = rw (← q) (double_finite (kept s) l) }
+
+-- so the sum that is rounded is finite
+pub rounded_finite : (s : Section) {t : SectionSum} {x : RoundedSum} → t ≡ kept_sum (kept s) → accepted x ≡ sum_answer t → finite x.sum ≡ true
+rounded_finite s {t} {x} e q = is_true (finite x.sum) (sum-given s x (sym (sum_for_lem s) ∙ sym (ap sum_answer e) ∙ sym q)).finite_sum
 
 pub record LineGiven (s : Section) (l : FinishedLine) : Type 0 where
   pub is : line_for s ≡ l
@@ -130,14 +133,8 @@ pub line_lowest : (s : List ℕ) (g k : ℕ) {n : ℕ} → line_outcome s g k �
 line_lowest s g k = finishing_lowest figure_grounds line_for s g k (λ t. refl)
 
 -- a float that a sum gives is finite
-pub finite_outcome : (a : SectionSum) (s : List ℕ) (g k : ℕ) → sum_answer a ≡ sum_outcome s g k → FiniteSum a
-finite_outcome Absent s g k e = tt
-finite_outcome TooLarge s g k e = tt
-finite_outcome NotSound s g k e = tt
-finite_outcome (Finite x d) s g k e =
-    let y : RoundedSum = record { sum = x; side = d } in
-    let t = section_given sum_grounds sum_for s g k y e in
-    (sum-given t.0 y t.1).finite_sum
+pub finite_rounded : (x : RoundedSum) (s : List ℕ) (g k : ℕ) → accepted x ≡ sum_outcome s g k → T (finite x.sum)
+finite_rounded x s g k e = let t = section_given sum_grounds sum_for s g k x e in (sum-given t.0 x t.1).finite_sum
 
 -- so is the sum of a line
 pub finite_line : (l : FinishedLine) (s : List ℕ) (g k : ℕ) → accepted l ≡ line_outcome s g k → T (finite l.sum)
@@ -147,37 +144,16 @@ finite_line l s g k e = let t = section_given figure_grounds line_for s g k l e 
 pub double_back : (k : ℤ) → of_bits binary64 (to_bits binary64 (nearest_double k)) ≡ nearest_double k
 double_back k = of_bits-to_bits binary64 (nearest_double k) (double_fits k)
 
--- ---- the line of a figure
-
--- a figure that is given, and one that is refused, and what a line makes of it
-pub figure_passed : {A : Type 0} (f : ℤ → A) (b : Bool) (x z : ℤ) → accepted z ≡ cond b (refused 15) (accepted x) → accepted (f z) ≡ cond b (refused 15) (accepted (f x))
-figure_passed f true x z e = never cc
-figure_passed f false x z e = let q : z ≡ x = cc in ap (λ (y : ℤ). accepted (f y)) q
-
-pub withheld : {A : Type 0} (a : A) (b : Bool) (x : ℤ) (n : ℕ) → refused n ≡ cond b (refused 15) (accepted x) → refused n ≡ cond b (refused 15) (accepted a)
-withheld a true x n e = let q : n ≡ 15 = cc in ap refused q
-withheld a false x n e = never cc
-
 -- ---- on a table, by what a lookup says of it
 
--- what f gives for each case of a lookup
-abbrev pub outcome_of : {A : Type 0} → (Option Section → Outcome A) → Lookup → Outcome A
-outcome_of f (Found r) = f (some (meaning r))
-outcome_of f Missing = f none
-outcome_of f Unsound = refused 7
+-- what f gives for each answer of a lookup: for the section that is found, for none, and 7 for a table that is not sound
+abbrev pub finished_lookup : {A : Type 0} → (Option Section → Outcome A) → Result SoundRecord Refusal → Outcome A
+finished_lookup f (Ok r) = f (some (meaning r.raw))
+finished_lookup f (Err SectionAbsent) = f none
+finished_lookup f (Err e) = refused (number_of e)
 
-by_lookup : {A : Type 0} (f : Option Section → Outcome A) (a : Lookup) (s : List ℕ) (g k : ℕ) → LookedUp a s g k → outcome_of f a ≡ finishing f s g k
-by_lookup f (Found r) s g k l = rw (l.0, l.1)
-by_lookup f Missing s g k l = rw (l.0, l.1)
-by_lookup f Unsound s g k l = rw l
-
-module _ (a : Lookup) (s : List ℕ) (g k : ℕ) (l : LookedUp a s g k) where
-  says : {b : Lookup} → a ≡ b → LookedUp b s g k
-  says e = subst (λ (b : Lookup). LookedUp b s g k) e l
-
-  pub found_sound : (r : Record) → a ≡ Found r → T (sound_record r)
-  found_sound r e = (says e).2
-
-  -- the answer in any case of the lookup
-  pub finishing_by : {A : Type 0} (f : Option Section → Outcome A) (b : Lookup) → a ≡ b → outcome_of f b ≡ finishing f s g k
-  finishing_by f b e = by_lookup f b s g k (says e)
+-- finishing gives just that, whatever f is: so sum, figure, line and exactness need no look at the table but their lookup
+pub finishing_by : {A : Type 0} (f : Option Section → Outcome A) (s : List ℕ) (g k : ℕ) (a : Result SoundRecord Refusal) → LookedUp a s g k → finished_lookup f a ≡ finishing f s g k
+finishing_by f s g k (Ok r) l = rw (l.0, l.1)
+finishing_by f s g k (Err e) (inl l) = rw (l.0, l.1, l.2)
+finishing_by f s g k (Err e) (inr l) = rw (l.0, l.1)

@@ -17,14 +17,15 @@ use Rattle.integers.proofs.Laws.{apart_none, apart_zero}
 use Rattle.level.specs.Double.{exponent_field, negative, finite_bits, magnitude, signed, value}
 use Rattle.level.proofs.Signs.{nat_abs-signed}
 use Rattle.level.proofs.Double.{significand-lt}
-use Rattle.limbs.specs.declared.Side.{Side}
-use Rattle.limbs.specs.declared.Side.TheVariants.{Less, Equal, Greater}
+use Rattle.std.specs.Ordering.{ordering_reverse}
+use Rattle.std.specs.declared.cmp.Ordering.{Ordering}
+use Rattle.std.specs.declared.cmp.Ordering.TheVariants.{Less, Equal, Greater}
 use Rattle.limbs.specs.Packed.{dropped_digits, significand_of, rounded_units, infinite, sign_bit}
 use Rattle.limbs.specs.Side.{side_of, packed_side, Says, side_number, side_said}
 use Rattle.limbs.proofs.Sides.{side_says, says_side, side-back, side_equal, side_greater}
 use Rattle.limbs.proofs.Packed.{none_dropped, significand_ge, short_exact, end_rounded, packed-bits}
 use Rattle.finish.specs.Sum.{limit, nearest_double, too_large}
-use Rattle.finish.specs.Side.{double_value, side, opposite_side, signed_side}
+use Rattle.finish.specs.Side.{double_value, side, signed_side}
 use Rattle.finish.proofs.Limit.{limit_finite, limit_inf, inf_bits}
 use Rattle.finish.proofs.Nearest.{size_sign, nearest-value, nearest_double_lem}
 
@@ -39,10 +40,10 @@ less_negated (negsuc a) (pos zero) t = lt→ltb 0 (suc a) (omega arith)
 less_negated (negsuc a) (pos (suc b)) t = tt
 less_negated (negsuc a) (negsuc b) t = lt→ltb (suc b) (suc a) (suc-le-suc (ltb→lt b a t))
 
-pub side-negated : (x y : ℤ) → side_of (neg_ℤ x) (neg_ℤ y) ≡ opposite_side (side_of x y)
-side-negated x y = says_side (opposite_side (side_of x y)) (neg_ℤ x) (neg_ℤ y) (by (side_of x y) (side_says x y))
+pub side-negated : (x y : ℤ) → side_of (neg_ℤ x) (neg_ℤ y) ≡ ordering_reverse (side_of x y)
+side-negated x y = says_side (ordering_reverse (side_of x y)) (neg_ℤ x) (neg_ℤ y) (by (side_of x y) (side_says x y))
   where
-    by : (d : Side) → Says d x y → Says (opposite_side d) (neg_ℤ x) (neg_ℤ y)
+    by : (d : Ordering) → Says d x y → Says (ordering_reverse d) (neg_ℤ x) (neg_ℤ y)
     by Less h = lt_z_yes (less_negated x y h.lt)
     by Equal e = ap neg_ℤ e
     by Greater h = lt_z_yes (less_negated y x h.lt)
@@ -65,9 +66,9 @@ pub side-number : (x : Float) (k : ℤ) → ((side_number (side x k) ≡ neg_ℤ
 unfolding side
 side-number x k = (only Less, only Equal, only Greater)
   where
-    only : (d : Side) → (side_number (side_of (double_value x) k) ≡ side_number d) ↔ Says d (double_value x) k
+    only : (d : Ordering) → (side_number (side_of (double_value x) k) ≡ side_number d) ↔ Says d (double_value x) k
     only d = (
-      λ e. subst (λ (t : Side). Says t (double_value x) k) (sym (side-back (side_of (double_value x) k)) ∙ ap side_said e ∙ side-back d) (side_says (double_value x) k),
+      λ e. subst (λ (t : Ordering). Says t (double_value x) k) (sym (side-back (side_of (double_value x) k)) ∙ ap side_said e ∙ side-back d) (side_says (double_value x) k),
       λ h. ap side_number (says_side d (double_value x) k h),
     )
 

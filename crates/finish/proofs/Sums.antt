@@ -1,9 +1,8 @@
 -- The answer of a kept value is that of its bits. The idea: both say too large from the same size on, and below it the bits are the nearest double's.
-use mathlib.Core.Path.{◌≡◌, refl, sym, ap, ap₂, ◌∙◌}
+use mathlib.Core.Path.{◌≡◌, refl, sym, ap₂, ◌∙◌}
 use mathlib.Core.Logic.{◌↔◌, ⊎_elim}
 use mathlib.Core.Bool.{Bool, true, false, not}
 use Prim.Native.Nat.{ℕ, ◌+◌, ◌%◌, ◌^◌, ◌≤◌, ◌<◌}
-use native.Mathlib.Nat.{add_comm, zero-add}
 use native.Mathlib.Omega.{arith}
 use borrow.Author.Tests.{lt-leb, le-leb, leb-true, leb-false}
 use lib.Dec.{T}
@@ -16,13 +15,13 @@ use lib.Ieee.Bits.{nan_bits_above}
 use lib.Ieee.Scale.{finite}
 use Rattle.finish.specs.Sum.{limit, nearest_double, too_large}
 use Rattle.limbs.specs.Nearest.{nearest_by}
-use Rattle.limbs.specs.declared.Side.{Side}
-use Rattle.limbs.specs.declared.Side.TheVariants.{Equal}
+use Rattle.std.specs.declared.cmp.Ordering.{Ordering}
+use Rattle.std.specs.declared.cmp.Ordering.TheVariants.{Equal}
 use Rattle.limbs.specs.Packed.{packed, infinite, sign_bit}
 use Rattle.limbs.specs.Side.{packed_side}
 use Rattle.integers.proofs.Naturals.{le_or_lt}
 use Rattle.limbs.proofs.Packed.{packed-value}
-use Rattle.finish.specs.Side.{opposite_side, signed_side}
+use Rattle.finish.specs.Side.{signed_side}
 use Rattle.finish.specs.Steps.{kept_sum, sum_of_bits}
 use Rattle.finish.specs.declared.SectionSum.{SectionSum}
 use Rattle.finish.specs.declared.SectionSum.TheVariants.{Finite, TooLarge}
@@ -42,22 +41,12 @@ negative-number n h = no_nan (n + 2 ^ 63) (omega arith)
 
 -- ---- the answer of bits
 
-module _ (n : ℕ) (s : Bool) (d : Side) where
+module _ (n : ℕ) (s : Bool) (d : Ordering) where
   pub bits-large : infinite ≤ n → TooLarge ≡ sum_of_bits n s d
   bits-large h = rw (le-leb (infinite) n h)
 
   sum_of_finite : n < infinite → Finite (of_bits binary64 (sign_bit s + n)) (signed_side s d) ≡ sum_of_bits n s d
   sum_of_finite h = rw (lt-leb (infinite) n h)
-
-  -- by the sign, the bits and the side both going by it
-  by_sign : (t : Bool) → s ≡ t → n < infinite → Finite (of_bits binary64 (sign_bit t + n)) (signed_side t d) ≡ sum_of_bits n s d
-  by_sign t e h = ap (λ (u : Bool). Finite (of_bits binary64 (sign_bit u + n)) (signed_side u d)) (sym e) ∙ sum_of_finite h
-
-  pub bits-negative : n < infinite → s ≡ true → Finite (of_bits binary64 (n + 2 ^ 63)) (opposite_side d) ≡ sum_of_bits n s d
-  bits-negative h e = ap (λ (x : ℕ). Finite (of_bits binary64 x) (opposite_side d)) (add_comm n (2 ^ 63)) ∙ by_sign true e h
-
-  pub bits_positive : n < infinite → s ≡ false → Finite (of_bits binary64 n) d ≡ sum_of_bits n s d
-  bits_positive h e = ap (λ (x : ℕ). Finite (of_bits binary64 x) d) (sym (zero-add n)) ∙ by_sign false e h
 
 -- ---- the answer of a kept value
 

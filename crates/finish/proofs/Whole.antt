@@ -2,20 +2,16 @@
 -- the biased ones put together less the biases put together, and that distance with its sign is the kept value, 80 digits up.
 use mathlib.Core.Path.{◌≡◌, refl, sym, ap, ap₂, ◌∙◌}
 use mathlib.Core.Bool.{Bool, true, false, not}
-use Prim.Native.Nat.{ℕ, zero, suc, ◌+◌, ◌-◌, ◌*◌, ◌/◌, ◌%◌, ◌^◌, ◌≤◌, ◌<◌}
-use native.Mathlib.Nat.{mul-pos, mul-div_cancel, lt_irrefl, zero-mul, lt_of_lt_of_le}
+use Prim.Native.Nat.{ℕ, zero, suc, ◌+◌, ◌-◌, ◌*◌, ◌/◌, ◌^◌, ◌<◌}
+use native.Mathlib.Nat.{mul-pos, mul-div_cancel, lt_irrefl, zero-mul}
 use native.Mathlib.Omega.{arith}
-use borrow.Author.Tests.{le-ltb}
-use lib.Dec.{T, lit≤}
+use lib.Dec.{T}
 use lib.Pow.{pow_pos}
 use lib.IntN.{ℤ, pos, negsuc, ◌+ℤ◌, ◌*ℤ◌, nat_abs}
 use lib.Signed.{non_neg}
-use mir.Syntax.{w64}
-use mir.Val.{to_z, of_z}
 use Rattle.lists.proofs.Booleans.{never}
 use Rattle.integers.proofs.Diff.{◌⊝◌, ints, by_parts, by_parts₃}
 use Rattle.integers.proofs.Laws.{nat_abs-scale}
-use Rattle.integers.proofs.Width.{bits_back}
 use Rattle.level.proofs.Signs.{nat_abs-signed, signed_mul}
 use Rattle.level.proofs.Given.{unit-suc}
 use Rattle.level.specs.Double.{signed}
@@ -56,22 +52,6 @@ kept_up t x y z h k =
 
 carry_is : (c : ℤ) → nat_abs c < carry_bias → c ≡ biased_carry c ⊝ carry_bias
 carry_is = by_parts _ (λ a b. simp ints (omega arith))
-
-pub biased_carry_fits : (c : ℤ) → nat_abs c < carry_bias → T (non_neg (c +ℤ pos (carry_bias))) × (biased_carry c < 2 ^ 23)
-biased_carry_fits c h = (nonneg c h, small c h)
-  where
-    nonneg : (c : ℤ) → nat_abs c < carry_bias → T (non_neg (c +ℤ pos (carry_bias)))
-    nonneg (pos n) h = tt
-    nonneg (negsuc n) h = rw (le-ltb (carry_bias) (suc n) (omega arith)) tt
-
-    small : (c : ℤ) → nat_abs c < carry_bias → biased_carry c < 2 ^ 23
-    small = by_parts _ (λ a b. simp ints (omega arith))
-
--- read off the bits of the sum
-pub carry_read : (c r : ℤ) → nat_abs c < carry_bias → r ≡ to_z w64 (of_z w64 c) +ℤ pos (carry_bias) → to_z w64 (of_z w64 r) ≡ c +ℤ pos (carry_bias)
-carry_read c r h e =
-    let f : r ≡ c +ℤ pos (carry_bias) = e ∙ ap (λ (z : ℤ). z +ℤ pos (carry_bias)) (bits_back w64 c (omega arith)) in
-    ap (λ (z : ℤ). to_z w64 (of_z w64 z)) f ∙ bits_back w64 (c +ℤ pos (carry_bias)) (lt_of_lt_of_le (biased_carry_fits c h).1 (lit≤ tt))
 
 total_of_lem : (n s : ℕ) → (n ⊝ carry_bias) *ℤ pos (carry_base) +ℤ pos s ≡ (s + carry_base * n) ⊝ total_bias
 total_of_lem n s = simp ints (omega arith)
@@ -123,21 +103,6 @@ kept_size r v P Q s l h p q d =
 
 pub units_exact : (k v u : ℕ) → k * 2 ^ 80 ≡ v * u → v * u / 2 ^ 80 ≡ k
 units_exact k v u e = ap (λ (x : ℕ). x / 2 ^ 80) (sym e) ∙ mul-div_cancel k (pow_pos 80)
-
--- ---- three levels put together
-
-pub high_lt : (s r : ℕ) → s < carry_base → r < 2 ^ 23 → s / 2 ^ 40 + r * 1024 < 2 ^ 34
-high_lt s r h k = omega arith
-
-pub high_same : (s r : ℕ) → s % 2 ^ 40 + 2 ^ 40 * (s / 2 ^ 40 + r * 1024) ≡ s + carry_base * r
-high_same s r = omega arith
-
-pub stacked_same : (w k l m h i j x y z : ℕ) → k + 2 ^ 40 * h ≡ x → l + 2 ^ 40 * i ≡ y → m + 2 ^ 40 * j ≡ z
-    → w ≡ m + 2 ^ 40 * (j + l) + 2 ^ 80 * (i + k) + 2 ^ 120 * h → w ≡ z + 2 ^ 40 * y + 2 ^ 80 * x
-stacked_same w k l m h i j x y z a b c e = omega arith
-
-pub last_lt : (r h : ℕ) → r ≤ h + 2 ^ 23 → h < 2 ^ 34 → r < 2 ^ 40
-last_lt r h k l = omega arith
 
 -- ---- a distance of 0
 

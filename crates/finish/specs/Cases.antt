@@ -11,8 +11,8 @@ use Rattle.record.specs.Layout.{encode, decode}
 use Rattle.record.specs.Keys.{rising}
 use Rattle.record.specs.Sound.{sound, sound_records, sound_record, sound_total, is_zero}
 use Rattle.record.specs.Section.{Section, section_at_top, section_of, kept, section_bytes, find}
-use Rattle.limbs.specs.declared.Side.{Side}
-use Rattle.limbs.specs.declared.Side.TheVariants.{Less, Equal, Greater}
+use Rattle.std.specs.declared.cmp.Ordering.{Ordering}
+use Rattle.std.specs.declared.cmp.Ordering.TheVariants.{Less, Equal, Greater}
 use Rattle.finish.specs.Sum.{nearest_double, limit, too_large}
 use Rattle.finish.specs.Side.{side}
 use Rattle.finish.specs.Figure.{mill_figure, beyond}
@@ -29,7 +29,7 @@ figure_of_row : ℕ → Outcome ℤ
 figure_of_row b = figure_of (some (section_of 1 (b ∷ [])))
 
 -- the sum with these bits, on this side of the kept value
-sum_with_bits : ℕ → Side → Outcome RoundedSum
+sum_with_bits : ℕ → Ordering → Outcome RoundedSum
 sum_with_bits b d = accepted (record { sum = of_bits binary64 b; side = d })
 
 -- subnormals; a tie down, up, just passed and just not reached, on either side of 0; a tie at the end of a binade, and just below it; rows that cancel;

@@ -1,12 +1,9 @@
 -- Card 7's question: whether a section's kept value is known to be the exact sum of its rows.
-use Rattle.std.specs.Prelude.{ℕ, ◌-◌, ◌*◌, Bool, true, false, ◌||◌, List, [], leb}
+use Rattle.std.specs.Prelude.{ℕ, ◌-◌, ◌*◌, Bool, ◌||◌, List, [], leb}
 use Rattle.std.proofs.Math.Option.{Option}
-use Rattle.refusal.specs.Outcome.{Outcome, accepted, refused}
-use Rattle.refusal.specs.Number.{number_of}
+use Rattle.refusal.specs.Outcome.{Outcome}
 use Rattle.record.specs.Section.{Section}
 use Rattle.finish.specs.Finish.{finished_by, finishing}
-use Rattle.finish.specs.declared.ExactnessAnswer.{ExactnessAnswer}
-use Rattle.finish.specs.declared.ExactnessAnswer.TheVariants.{Exact, NotKnown, Refused}
 
 -- a section is answered exact: its finest power z is at least 40 × (t - 2), or its top t is 2 or less
 abbrev pub answered_exact : Section → Bool
@@ -19,9 +16,3 @@ exactness_of o = finished_by (λ (s : Section). []) answered_exact o
 -- the outcome of the question for section k in a table of g records in the bytes s: 7, 13, or the section's answer
 abbrev pub exactness_outcome : List ℕ → ℕ → ℕ → Outcome Bool
 exactness_outcome s g k = finishing exactness_of s g k
-
--- the answer's three cases: exact, not known, and the refusal's number
-abbrev pub exactness_answer : ExactnessAnswer → Outcome Bool
-exactness_answer Exact = accepted true
-exactness_answer NotKnown = accepted false
-exactness_answer (Refused r) = refused (number_of r)

@@ -5,15 +5,10 @@ use Rattle.refusal.specs.Outcome.{Outcome, refused, Ground, ground, outcome}
 use Rattle.record.specs.Sound.{sound}
 use Rattle.record.specs.Section.{Section, kept, sections, find}
 use Rattle.finish.specs.Sum.{nearest_double, too_large}
-use Rattle.limbs.specs.declared.Side.{Side}
 use Rattle.finish.specs.Side.{side}
 use Rattle.finish.specs.Figure.{mill_figure, beyond}
 use Rattle.finish.specs.declared.FinishedLine.{FinishedLine}
-
--- a sum, and its side of the kept value
-pub record RoundedSum : Type 0 where
-  pub sum : Float
-  pub side : Side
+pub use Rattle.finish.specs.declared.RoundedSum.{RoundedSum}
 
 -- ---- of a section
 

@@ -3,8 +3,8 @@ use Rattle.std.specs.Prelude.{Bool, cond, ℤ, Float}
 use Rattle.std.specs.Float.{binary64}
 use Rattle.std.specs.Float.Ieee.{to_bits}
 use Rattle.level.specs.Double.{value}
-use Rattle.limbs.specs.declared.Side.{Side}
-use Rattle.limbs.specs.declared.Side.TheVariants.{Less, Equal, Greater}
+use Rattle.std.specs.declared.cmp.Ordering.{Ordering}
+use Rattle.std.specs.Ordering.{ordering_reverse}
 use Rattle.limbs.specs.Side.{side_of}
 
 -- a double's value, in units of 2^-1074
@@ -12,15 +12,9 @@ abbrev pub double_value : Float → ℤ
 double_value x = value (to_bits binary64 x)
 
 -- Card 2's side: the value of the double x is below, equal to or above k units
-unfoldable pub side : Float → ℤ → Side
+unfoldable pub side : Float → ℤ → Ordering
 side x k = side_of (double_value x) k
 
--- the side of two numbers with their signs turned
-abbrev pub opposite_side : Side → Side
-opposite_side Less = Greater
-opposite_side Equal = Equal
-opposite_side Greater = Less
-
 -- the side of two numbers with the sign s, d being that of their sizes
-abbrev pub signed_side : Bool → Side → Side
-signed_side s d = cond s (opposite_side d) d
+abbrev pub signed_side : Bool → Ordering → Ordering
+signed_side s d = cond s (ordering_reverse d) d

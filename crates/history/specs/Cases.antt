@@ -10,7 +10,7 @@ use Rattle.single.specs.Single.{widened}
 use Rattle.columns.specs.declared.Kind.TheVariants.{Double, Single}
 use Rattle.columns.specs.Columns.{width, Row, rows_from, columns_fit, rows_of}
 use Rattle.record.specs.Section.{Section, sections, section_bytes, written, find, kept, section_at_top}
-use Rattle.limbs.specs.declared.Side.TheVariants.{Equal}
+use Rattle.std.specs.declared.cmp.Ordering.TheVariants.{Equal}
 use Rattle.finish.specs.Sum.{too_large, nearest_double}
 use Rattle.finish.specs.Side.{side}
 use Rattle.finish.specs.Figure.{mill_figure, beyond}

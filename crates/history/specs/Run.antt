@@ -2,7 +2,8 @@
 use Rattle.std.specs.Prelude.{ℕ, Bool, List, [], ◌∷◌, length, get_or, ℤ}
 use Rattle.refusal.specs.Outcome.{Outcome, accepted, refused, is_refusal}
 use Rattle.finish.specs.declared.FinishedLine.{FinishedLine}
-use Rattle.finish.specs.Finish.{RoundedSum, sum_of, figure_of, line_of, sum_outcome, figure_outcome, line_outcome}
+use Rattle.finish.specs.declared.RoundedSum.{RoundedSum}
+use Rattle.finish.specs.Finish.{sum_of, figure_of, line_of, sum_outcome, figure_outcome, line_outcome}
 use Rattle.finish.specs.Exact.{exactness_of, exactness_outcome}
 use Rattle.columns.specs.declared.Kind.{Kind}
 use Rattle.columns.specs.Columns.{Row}

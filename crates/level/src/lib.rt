@@ -7,7 +7,7 @@ ghost use Rattle.lists.specs.Lists.{exceptions};
 ghost use Rattle.level.specs.Double.{exponent_field, fraction, finite_bits, significand, negative, signed};
 ghost use Rattle.level.specs.Level.{top};
 ghost use Rattle.level.specs.ByField.{TopOfField, by_formula};
-ghost use Rattle.level.specs.Cut.{shift_of, rest_of, rounded_up, flipped_if};
+ghost use Rattle.level.specs.Cut.{shift_of, rest_of, rounded_up};
 ghost use Rattle.level.specs.Carry.{carry_base, carry_of, residue_of, split_of, total_of};
 ghost use Rattle.level.specs.Contributions.{contributions_of};
 ghost use Rattle.level.specs.Finest.{finest};
@@ -47,6 +47,7 @@ pub fn significand(bits: u64) -> u64
     }
 }
 
+// Whether the sign bit is set.
 pub fn is_negative(bits: u64) -> bool
     ensures { result ≡ negative bits }
 {
@@ -68,7 +69,7 @@ fn listed_top(tops: &[u8; 2046], e: u64) -> u8
     tops[(e - 1) as usize]
 }
 
-// The top of every row with the exponent field e. A constant array is built on the stack wherever it is read, but for the entries that the compiler
+// The top of every row with the exponent field e. Kept: that e is a normal double's stays a clause of these functions, since a type for it would be built anew at each remainder. A constant array is built on the stack wherever it is read, but for the entries that the compiler
 // rules out. So `usual_top` and `block_top` take a remainder that changes nothing: it says among which entries the field's own is.
 fn field_top(e: u64) -> u64
     requires { (0 < e) × (e < 2047) }
@@ -136,8 +137,7 @@ fn top_level(bits: u64) -> u64
 fn scale(bits: u64) -> u64
     ensures { result ≡ exponent_field bits - 1 }
 {
-    let e = exponent_field(bits);
-    if e == 0 { 0 } else { e - 1 }
+    exponent_field(bits).saturating_sub(1)
 }
 
 // The finest power of a row that is zero; a finite row that is not zero has a smaller one.
@@ -162,6 +162,7 @@ fn shift(bits: u64, t: u64) -> u64
     40 * t - scale(bits)
 }
 
+// 2^d.
 pub fn power(d: u64) -> u64
     requires { d < 64 }
     ensures { result ≡ 2 ^ d }
@@ -205,6 +206,7 @@ struct Cut {
     rounded_up: bool,
 }
 
+// A size of so many units of 1, cut at 2^d.
 fn cut_at(x: u64, d: u64) -> Cut
     requires { (x < 2 ^ 53) × (d < 54) }
     ensures { (result.units ≡ closest x (2 ^ d)) × (result.rest ≡ rest_of x (2 ^ d)) × (result.rounded_up ≡ rounded_up x (2 ^ d)) }
@@ -234,6 +236,7 @@ struct Lower {
     low: u64,
 }
 
+// The rest's units one and two levels below, each to the nearest number.
 fn lower_two(rest: u64, d: u64) -> Lower
     requires { (rest * 2 ≤ 2 ^ d) × (d < 54) }
     ensures { (result.middle ≡ closest (rest * 2 ^ 40) (2 ^ d)) × (result.rounded_up ≡ rounded_up (rest * 2 ^ 40) (2 ^ d)) × (result.low ≡ closest (rest_of (rest * 2 ^ 40) (2 ^ d) * 2 ^ 40) (2 ^ d)) }
@@ -251,13 +254,6 @@ fn lower_two(rest: u64, d: u64) -> Lower
         rounded_up: c.rounded_up,
         low: c.rest << (80 - d),
     }
-}
-
-// A sign, flipped or kept.
-fn flipped_if(sign: bool, flip: bool) -> bool
-    ensures { result ≡ flipped_if sign flip }
-{
-    if flip { !sign } else { sign }
 }
 
 // A number of a sign and a magnitude.
@@ -278,6 +274,7 @@ pub struct Contributions {
     pub low: i64,
 }
 
+// The contributions of the row with these bits.
 pub fn contributions_of(bits: u64) -> Contributions
     ensures { result ≡ contributions_of bits }
 {
@@ -286,8 +283,8 @@ pub fn contributions_of(bits: u64) -> Contributions
     let sign = is_negative(bits);
     let first = cut_at(significand(bits), d);
     let next = lower_two(first.rest, d);
-    let sign1 = flipped_if(sign, first.rounded_up);
-    let sign2 = flipped_if(sign1, next.rounded_up);
+    let sign1 = sign ^ first.rounded_up;
+    let sign2 = sign1 ^ next.rounded_up;
     Contributions {
         top: t as u32,
         high: with_sign(sign, first.units),
@@ -317,6 +314,7 @@ fn carry_of(total: i64) -> i64
     total >> 50
 }
 
+// A total as it is kept.
 pub fn split(total: i64) -> SplitTotal
     ensures { result ≡ split_of total }
 {
@@ -335,6 +333,7 @@ pub fn plus(x: i64, y: i64) -> i64
 }
 
 // Two totals added. A residue may be 2^50 itself, as that of an opposite may (subtract_totals).
+// Kept: the bounds of totals differ here, in add_totals, in subtract_totals and in crate finish, so that no one type holds them.
 fn add_up_to_base(a: SplitTotal, b: SplitTotal) -> SplitTotal
     requires { (a.residue ≤ carry_base) × (b.residue ≤ carry_base) × (nat_abs a.carry < 2 ^ 61) × (nat_abs b.carry < 2 ^ 61) }
     ensures { result ≡ split_of (total_of a +ℤ total_of b) }

@@ -9,12 +9,10 @@ use lib.IntN.{pos}
 use lib.ListN.{get_or}
 use lib.Arith.{digits_mod}
 use lib.Pow.{pow-add, shr_lt}
-use Rattle.limbs.specs.Limbs.{value_of, Reduced}
+use Rattle.limbs.specs.Limbs.{value_of, LowReduced, Reduced}
 use Rattle.limbs.specs.Nearest.{is_odd, rounded}
 use Rattle.limbs.specs.Packed.{leading_digits}
 use Rattle.limbs.specs.Side.{side_of, rounded_side}
-use Rattle.limbs.proofs.Addition.{three-lt}
-use Rattle.integers.proofs.Naturals.{order_same}
 use Rattle.limbs.proofs.Nearest.{nearest_at, nearest_ceiling}
 use Rattle.limbs.proofs.Sides.{side-rounded}
 
@@ -29,33 +27,15 @@ others a = get_or a 0 0 + 2 ^ 40 * get_or a 1 0 + 2 ^ 80 * (get_or a 2 0 % 2 ^ 2
 leading_parts : (a b c d : ℕ) → a + 2 ^ 40 * b + 2 ^ 80 * c + 2 ^ 120 * d ≡ (d * 8192 + c / 2 ^ 27) * 2 ^ 107 + (a + 2 ^ 40 * b + 2 ^ 80 * (c % 2 ^ 27))
 leading_parts a b c d = omega arith
 
+-- each limb is a variable, since `omega` stops at numbers of more than 38 digits
+three-lt : (a : List ℕ) → LowReduced a → get_or a 0 0 + 2 ^ 40 * get_or a 1 0 + 2 ^ 80 * get_or a 2 0 < 2 ^ 120
+three-lt a l = omega (arith, l.limb0, l.limb1, l.limb2)
+
 two-lt : (a b : ℕ) → a < 2 ^ 40 → b < 2 ^ 40 → a + 2 ^ 40 * b < 2 ^ 80
 two-lt a b h k = omega arith
 
 rest_lt : (x c : ℕ) → x < 2 ^ 80 → x + 2 ^ 80 * (c % 2 ^ 27) < 2 ^ 107
 rest_lt x c h = omega arith
-
--- twice the digits c, and one more if any digit of x below them is set, stand to 2^27 as all of them twice to 2^107
-module _ (x c : ℕ) where
-  set_same : 0 < x → x < 2 ^ 80 → compare (c * 2 + 1) (2 ^ 27) ≡ compare ((x + 2 ^ 80 * c) * 2) (2 ^ 107)
-  set_same p h = order_same (c * 2 + 1) (2 ^ 27) ((x + 2 ^ 80 * c) * 2) (2 ^ 107) (λ l. omega arith) (λ e. absurd (omega arith)) (λ l. omega arith)
-
-  clear-same : x ≡ 0 → compare (c * 2) (2 ^ 27) ≡ compare ((x + 2 ^ 80 * c) * 2) (2 ^ 107)
-  clear-same e = order_same (c * 2) (2 ^ 27) ((x + 2 ^ 80 * c) * 2) (2 ^ 107) (λ l. omega arith) (λ l. omega arith) (λ l. omega arith)
-
--- and they are 0 just where all of them are
-module _ (x c : ℕ) where
-  set_zero : 0 < x → compare (c * 2 + 1) 0 ≡ compare (x + 2 ^ 80 * c) 0
-  set_zero p = order_same (c * 2 + 1) 0 (x + 2 ^ 80 * c) 0 (λ l. absurd (omega arith)) (λ e. absurd (omega arith)) (λ l. omega arith)
-
-  clear_zero : x ≡ 0 → compare (c * 2) 0 ≡ compare (x + 2 ^ 80 * c) 0
-  clear_zero e = order_same (c * 2) 0 (x + 2 ^ 80 * c) 0 (λ l. absurd (omega arith)) (λ l. omega arith) (λ l. omega arith)
-
-some-low : (a b : ℕ) → 0 < b + a → 0 < a + 2 ^ 40 * b
-some-low a b h = omega arith
-
-no_low : (a b : ℕ) → b + a ≤ 0 → a + 2 ^ 40 * b ≡ 0
-no_low a b h = omega arith
 
 module _ (a : List ℕ) (n : Reduced a) where
   low-lt : get_or a 0 0 + 2 ^ 40 * get_or a 1 0 < 2 ^ 80
@@ -69,18 +49,6 @@ module _ (a : List ℕ) (n : Reduced a) where
 
   remainder : others a ≡ value_of a % 2 ^ 107
   remainder = sym (ap (λ (x : ℕ). x % 2 ^ 107) lead_same ∙ digits_mod (lead a) others_lt)
-
-  pub lower_set : 0 < get_or a 1 0 + get_or a 0 0 → compare (get_or a 2 0 % 2 ^ 27 * 2 + 1) (2 ^ 27) ≡ compare (value_of a % 2 ^ 107 * 2) (2 ^ 107)
-  lower_set h = set_same (get_or a 0 0 + 2 ^ 40 * get_or a 1 0) (get_or a 2 0 % 2 ^ 27) (some-low (get_or a 0 0) (get_or a 1 0) h) low-lt ∙ ap (λ (x : ℕ). compare (x * 2) (2 ^ 107)) remainder
-
-  pub lower_clear : get_or a 1 0 + get_or a 0 0 ≤ 0 → compare (get_or a 2 0 % 2 ^ 27 * 2) (2 ^ 27) ≡ compare (value_of a % 2 ^ 107 * 2) (2 ^ 107)
-  lower_clear h = clear-same (get_or a 0 0 + 2 ^ 40 * get_or a 1 0) (get_or a 2 0 % 2 ^ 27) (no_low (get_or a 0 0) (get_or a 1 0) h) ∙ ap (λ (x : ℕ). compare (x * 2) (2 ^ 107)) remainder
-
-  pub lower_set_zero : 0 < get_or a 1 0 + get_or a 0 0 → compare (get_or a 2 0 % 2 ^ 27 * 2 + 1) 0 ≡ compare (value_of a % 2 ^ 107) 0
-  lower_set_zero h = set_zero (get_or a 0 0 + 2 ^ 40 * get_or a 1 0) (get_or a 2 0 % 2 ^ 27) (some-low (get_or a 0 0) (get_or a 1 0) h) ∙ ap (λ (x : ℕ). compare x 0) remainder
-
-  pub lower_clear_zero : get_or a 1 0 + get_or a 0 0 ≤ 0 → compare (get_or a 2 0 % 2 ^ 27 * 2) 0 ≡ compare (value_of a % 2 ^ 107) 0
-  lower_clear_zero h = clear_zero (get_or a 0 0 + 2 ^ 40 * get_or a 1 0) (get_or a 2 0 % 2 ^ 27) (no_low (get_or a 0 0) (get_or a 1 0) h) ∙ ap (λ (x : ℕ). compare x 0) remainder
 
   pub lead_nearest : rounded (is_odd (lead a)) (lead a) (compare (value_of a % 2 ^ 107 * 2) (2 ^ 107)) ≡ leading_digits a
   lead_nearest =

@@ -3,7 +3,7 @@ use mathlib.Core.Path.{◌≡◌, refl, sym, ap, ap₂, ◌∙◌, subst}
 use mathlib.Core.Bool.{Bool, true, false, cond}
 use mathlib.Core.Logic.{◌⊎◌, inl, inr}
 use Prim.Native.Nat.{ℕ, suc, ◌+◌, ◌*◌, ◌/◌, ◌%◌, ◌≤◌, ◌<◌, compare, Ordering}
-use native.Mathlib.Nat.{le_refl, le-suc, le_of_lt, lt_irrefl, mul_comm, mul_right_comm, add-mul, mod-lt, div-add-mod'}
+use native.Mathlib.Nat.{le_refl, le-suc, le_of_lt, mul_comm, mul_right_comm, add-mul, mod-lt, div-add-mod'}
 use native.Mathlib.Omega.{arith}
 use borrow.Author.Tests.{eqb-true, eqb-false}
 use lib.Arith.{digits_div, digits_mod}
@@ -25,30 +25,6 @@ rounded-le t q Ordering.lt = le-suc q
 rounded-le true q Ordering.eq = le_refl (suc q)
 rounded-le false q Ordering.eq = le-suc q
 rounded-le t q Ordering.gt = le_refl (suc q)
-
--- by one comparison: at an exact half the rest counts one more where the next number is to be taken
-module _ (t : Bool) (q r h : ℕ) where
-  pub round_next : h < r + cond t 1 0 → suc q ≡ rounded t q (compare r h)
-  round_next l = order_cases (λ (o : Ordering). suc q ≡ rounded t q o) r h (λ g. absurd (less t g l)) (λ e. same t e l) (λ g. refl)
-    where
-      less : (t : Bool) → r < h → h < r + cond t 1 0 → ⊥
-      less true g l = omega arith
-      less false g l = omega arith
-
-      same : (t : Bool) → r ≡ h → h < r + cond t 1 0 → suc q ≡ cond t (suc q) q
-      same true e l = refl
-      same false e l = absurd (lt_irrefl 0 (omega arith))
-
-  pub round_stay : r + cond t 1 0 ≤ h → q ≡ rounded t q (compare r h)
-  round_stay l = order_cases (λ (o : Ordering). q ≡ rounded t q o) r h (λ g. refl) (λ e. same t e l) (λ g. absurd (more t g l))
-    where
-      same : (t : Bool) → r ≡ h → r + cond t 1 0 ≤ h → q ≡ cond t (suc q) q
-      same true e l = absurd (lt_irrefl 0 (omega arith))
-      same false e l = refl
-
-      more : (t : Bool) → h < r → r + cond t 1 0 ≤ h → ⊥
-      more true g l = omega arith
-      more false g l = omega arith
 
 -- ---- the nearest number
 

@@ -18,7 +18,7 @@ use Rattle.limbs.specs.Limbs.{value_of, ShiftedLeft}
 use Rattle.limbs.specs.Nearest.{is_odd, nearest_by}
 use Rattle.limbs.specs.Packed.{dropped_digits, significand_of, rounded_units, packed, units_of, most_scale, leading_digits}
 use Rattle.limbs.specs.Side.{side_of, packed_side}
-use Rattle.limbs.specs.declared.Side.TheVariants.{Equal}
+use Rattle.std.specs.declared.cmp.Ordering.TheVariants.{Equal}
 use Rattle.limbs.proofs.Nearest.{nearest-same, nearest_whole}
 use Rattle.limbs.proofs.Sides.{side_equal, side-scale}
 use Rattle.limbs.proofs.Packed.{short_exact}

@@ -4,36 +4,11 @@ use Prim.Native.Nat.{ℕ, suc, ◌+◌, ◌-◌, ◌*◌, ◌/◌, ◌%◌, ◌^
 use native.Mathlib.Nat.{le_trans, le_of_eq, lt_of_lt_of_le, lt_of_not-le, not-le_of_lt, mul_assoc, add-zero, mul-le-mul_right, mul-mod_left, mod-lt, mod-eq_of_lt, le-add_right, mul-div-mul_right}
 use native.Mathlib.Omega.{arith}
 use mathlib.Core.List.{List, [], ◌∷◌}
-use lib.Dec.{lit<}
 use lib.ListN.{get_or}
-use mir.Syntax.{w64}
-use mir.Val.{Fits}
 use lib.Count.{count_leading_zeros, leading_top}
-use lib.Pow.{pow-add, pow_pos, pow_mono, shr_le, shr_lt, shl_lt, shl-shr, mod-pow-add}
+use lib.Pow.{pow-add, pow_pos, pow_mono, shr_lt, shl_lt, shl-shr, mod-pow-add}
 use Rattle.integers.proofs.Naturals.{pow-sum}
 use Rattle.limbs.specs.Limbs.{value_of, Reduced, ShiftedLeft}
-
--- ---- by whole limbs, those above being 0
-
-limb_up_same : (a b c d : ℕ) → d ≤ 0 → 0 + 2 ^ 40 * a + 2 ^ 80 * b + 2 ^ 120 * c ≡ (a + 2 ^ 40 * b + 2 ^ 80 * c + 2 ^ 120 * d) * 2 ^ 40
-limb_up_same a b c d h =
-    let e : 0 + 2 ^ 40 * a + 2 ^ 80 * b + 2 ^ 120 * c ≡ (a + 2 ^ 40 * b + 2 ^ 80 * c) * 2 ^ 40 = omega arith in
-    let f : a + 2 ^ 40 * b + 2 ^ 80 * c ≡ a + 2 ^ 40 * b + 2 ^ 80 * c + 2 ^ 120 * d = omega arith in
-    e ∙ ap (λ (x : ℕ). x * 2 ^ 40) f
-
--- one limb up
-abbrev pub limb_up : List ℕ → List ℕ
-limb_up a = 0 ∷ get_or a 0 0 ∷ get_or a 1 0 ∷ get_or a 2 0 ∷ []
-
-pub limb_up_lem : (a : List ℕ) → Reduced a → get_or a 3 0 ≤ 0 → ShiftedLeft a (limb_up a) 40
-limb_up_lem a g h =
-    record {
-      reduced = record { low_limbs = record { limb0 = lit< tt; limb1 = g.low_limbs.limb0; limb2 = g.low_limbs.limb1 }; limb3 = g.low_limbs.limb2 };
-      same = limb_up_same (get_or a 0 0) (get_or a 1 0) (get_or a 2 0) (get_or a 3 0) h;
-    }
-
-pub last_pos : (a b c d : ℕ) → 0 < a + 2 ^ 40 * b + 2 ^ 80 * c + 2 ^ 120 * d → d ≤ 0 → c ≤ 0 → b ≤ 0 → 0 < a
-last_pos a b c d p h k l = omega arith
 
 -- ---- by d digits, fewer than 40: of x * 2^d the last 40 digits stay in the limb, and the others leave it
 
@@ -62,9 +37,6 @@ module _ (x d : ℕ) (h : d < 40) where
 -- a shift of 64 bits drops no digit that stays
 pub last_same : (y : ℕ) → y % 2 ^ 64 % 2 ^ 40 ≡ y % 2 ^ 40
 last_same y = omega arith
-
-pub limb_fits : (x y d : ℕ) → y < 2 ^ 40 → Fits w64 (x % 2 ^ 40 + y / 2 ^ (40 - d))
-limb_fits x y d k = let l = shr_le y (40 - d) in omega arith
 
 -- a limb with what comes from the one below it has 40 digits
 limb_lt : (x y d : ℕ) → d < 40 → y < 2 ^ 40 → x * 2 ^ d % 2 ^ 40 + y * 2 ^ d / 2 ^ 40 < 2 ^ 40
@@ -131,9 +103,6 @@ module _ (x : ℕ) (p : 0 < x) (l : x < 2 ^ 40) where
   pub zeros_ge : 24 ≤ leading_zeros
   zeros_ge = omega (arith, leading_digit.1, leading_digit-lt)
 
-  pub zeros-lt : leading_zeros - 24 < 40
-  zeros-lt = omega (arith, leading_digit.1)
-
   pub digits_fit : x < 2 ^ (40 - (leading_zeros - 24))
   digits_fit = let q : suc leading_digit.0 ≡ 40 - (leading_zeros - 24) = omega (arith, leading_digit.1, leading_digit-lt) in lt_of_lt_of_le leading_digit.3 (le_of_eq (ap (λ (k : ℕ). 2 ^ k) q))
 
@@ -141,12 +110,3 @@ module _ (x : ℕ) (p : 0 < x) (l : x < 2 ^ 40) where
   leads =
       let e : 39 ≡ leading_digit.0 + (leading_zeros - 24) = omega (arith, leading_digit.1, leading_digit-lt) in
       le_trans (le_of_eq (ap (λ (k : ℕ). 2 ^ k) e ∙ pow-add 2 leading_digit.0 (leading_zeros - 24))) (mul-le-mul_right (2 ^ (leading_zeros - 24)) leading_digit.2)
-
-  pub zeros_fit : Fits w64 leading_zeros
-  zeros_fit = omega (arith, leading_digit.1)
-
-  pub by_lt : (s : ℕ) → s ≤ 120 → s + (leading_zeros - 24) < 160
-  by_lt s h = omega (arith, leading_digit.1)
-
-  pub by_fits : (s : ℕ) → s ≤ 120 → Fits w64 (s + (leading_zeros - 24))
-  by_fits s h = omega (arith, leading_digit.1)

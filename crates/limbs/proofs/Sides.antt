@@ -1,54 +1,40 @@
 -- The side of a value that its nearest number is on. The idea: the nearest number is the quotient, which is below unless the rest is 0, or the next one, which is above.
-use mathlib.Core.Path.{◌≡◌, refl, sym, ap, ◌∙◌, subst}
-use mathlib.Core.Bool.{Bool, true, false, not, cond}
-use Prim.Native.Nat.{ℕ, suc, ◌+◌, ◌*◌, ◌<◌, compare, Ordering}
-use native.Mathlib.Nat.{le_refl, le_of_lt, le_antisymm, mul-lt-mul_of_pos_right}
+use mathlib.Core.Path.{◌≡◌, refl, sym, ap, ◌∙◌}
+use mathlib.Core.Bool.{Bool, true, false}
+use Prim.Native.Nat.{ℕ, suc, ◌+◌, ◌*◌, ◌<◌, compare}
+use Prim.Native.Nat as nat
+use native.Mathlib.Nat.{mul-lt-mul_of_pos_right}
 use native.Mathlib.Omega.{arith}
 use borrow.Author.Tests.{lt-ltb, le-ltb, eq-eqb, ne_eqb}
-use lib.Dec.{T, eqb, compare_is_eq, ltb→lt, lt→ltb, nltb→le}
-use lib.IntN.{ℤ, pos, negsuc}
-use lib.Signed.{lt_z, ◌<ℤ◌, lt_z_yes}
-use lib.Ieee.Bits.{is_true}
+use lib.Dec.{eqb, compare_is_eq, lt→ltb}
+use lib.IntN.{ℤ, pos}
+use lib.Signed.{◌<ℤ◌, lt_z_yes}
 use Rattle.integers.proofs.Naturals.{order_cases}
-use Rattle.limbs.specs.declared.Side.{Side}
-use Rattle.limbs.specs.declared.Side.TheVariants.{Less, Equal, Greater}
+use Rattle.std.specs.Cmp.{int_ranks, int_cmp_is}
+use Rattle.std.specs.Ordering.{MatchOrdering}
+use Rattle.std.specs.declared.cmp.Ordering.{Ordering}
+use Rattle.std.specs.declared.cmp.Ordering.TheVariants.{Less, Equal, Greater}
 use Rattle.limbs.specs.Nearest.{rounded}
 use Rattle.limbs.specs.Side.{side_of, Says, side_number, side_said, rounded_side}
 
 -- ---- what a side says
 
-not_less : (x y : ℤ) → T (not (lt_z x y)) → T (not (lt_z y x)) → x ≡ y
-not_less (pos a) (pos b) h k = ap pos (le_antisymm (nltb→le b a k) (nltb→le a b h))
-not_less (pos a) (negsuc b) h k = absurd k
-not_less (negsuc a) (pos b) h k = absurd h
-not_less (negsuc a) (negsuc b) h k = ap negsuc (le_antisymm (nltb→le b a h) (nltb→le a b k))
-
 pub side_says : (x y : ℤ) → Says (side_of x y) x y
-side_says x y = by (lt_z x y) (lt_z y x) lt_z_yes lt_z_yes (not_less x y)
+side_says x y = by (side_of x y) (int_ranks x y)
   where
-    by : (a b : Bool) → (T a → x <ℤ y) → (T b → y <ℤ x) → (T (not a) → T (not b) → x ≡ y) → Says (cond a Less (cond b Greater Equal)) x y
-    by true b l g e = l tt
-    by false true l g e = g tt
-    by false false l g e = e tt tt
-
-less_self : (x : ℤ) → lt_z x x ≡ false
-less_self (pos a) = le-ltb a a (le_refl a)
-less_self (negsuc a) = le-ltb a a (le_refl a)
-
-less_one_way : (x y : ℤ) → T (lt_z x y) → lt_z y x ≡ false
-less_one_way (pos a) (pos b) t = le-ltb b a (le_of_lt (ltb→lt a b t))
-less_one_way (pos a) (negsuc b) t = absurd t
-less_one_way (negsuc a) (pos b) t = refl
-less_one_way (negsuc a) (negsuc b) t = le-ltb a b (le_of_lt (ltb→lt b a t))
+    by : (d : Ordering) → MatchOrdering d (x <ℤ y) (x ≡ y) (y <ℤ x) → Says d x y
+    by Less h = h
+    by Equal h = h
+    by Greater h = h
 
 -- and no other side says it
-pub says_side : (d : Side) (x y : ℤ) → Says d x y → side_of x y ≡ d
-says_side Less x y h = rw (is_true (lt_z x y) h.lt)
-says_side Equal x y e = subst (λ (z : ℤ). side_of x z ≡ Equal) e (rw (less_self x))
-says_side Greater x y h = rw (less_one_way y x h.lt, is_true (lt_z y x) h.lt)
+pub says_side : (d : Ordering) (x y : ℤ) → Says d x y → side_of x y ≡ d
+says_side Less x y h = sym (int_cmp_is x y Less h)
+says_side Equal x y h = sym (int_cmp_is x y Equal h)
+says_side Greater x y h = sym (int_cmp_is x y Greater h)
 
 -- a side is read back from its number
-pub side-back : (d : Side) → side_said (side_number d) ≡ d
+pub side-back : (d : Ordering) → side_said (side_number d) ≡ d
 side-back Less = refl
 side-back Equal = refl
 side-back Greater = refl
@@ -68,7 +54,7 @@ module _ (x y : ℕ) where
 -- both times k
 pub side-scale : (x y k : ℕ) → 0 < k → side_of (pos x) (pos y) ≡ side_of (pos (x * k)) (pos (y * k))
 side-scale x y k p =
-    order_cases (λ (o : Ordering). side_of (pos x) (pos y) ≡ side_of (pos (x * k)) (pos (y * k))) x y
+    order_cases (λ (o : nat.Ordering). side_of (pos x) (pos y) ≡ side_of (pos (x * k)) (pos (y * k))) x y
     (λ l. side_less x y l ∙ sym (side_less (x * k) (y * k) (mul-lt-mul_of_pos_right l p)))
     (λ e. side_equal x y e ∙ sym (side_equal (x * k) (y * k) (ap (λ (z : ℕ). z * k) e)))
     (λ l. side_greater x y l ∙ sym (side_greater (x * k) (y * k) (mul-lt-mul_of_pos_right l p)))
@@ -90,11 +76,11 @@ module _ (q r d rest : ℕ) (h : r < d) (z : compare rest 0 ≡ compare r 0) whe
 
   pub side-rounded : (t : Bool) → rounded_side q rest (rounded t q (compare (r * 2) d)) ≡ side_of (pos (rounded t q (compare (r * 2) d) * d)) (pos (q * d + r))
   side-rounded t =
-      order_cases (λ (o : Ordering). rounded_side q rest (rounded t q o) ≡ side_of (pos (rounded t q o * d)) (pos (q * d + r))) (r * 2) d
-      (λ l. order_cases (λ (o : Ordering). rounded_side q rest q ≡ side_of (pos (q * d)) (pos (q * d + r))) 0 r side-floor (λ e. side_whole (sym e)) (λ g. absurd (omega arith)))
+      order_cases (λ (o : nat.Ordering). rounded_side q rest (rounded t q o) ≡ side_of (pos (rounded t q o * d)) (pos (q * d + r))) (r * 2) d
+      (λ l. order_cases (λ (o : nat.Ordering). rounded_side q rest q ≡ side_of (pos (q * d)) (pos (q * d + r))) 0 r side-floor (λ e. side_whole (sym e)) (λ g. absurd (omega arith)))
       (λ e. half t e)
       (λ l. side_ceiling (omega arith))
     where
-      half : (t : Bool) → r * 2 ≡ d → rounded_side q rest (rounded t q Ordering.eq) ≡ side_of (pos (rounded t q Ordering.eq * d)) (pos (q * d + r))
+      half : (t : Bool) → r * 2 ≡ d → rounded_side q rest (rounded t q nat.Ordering.eq) ≡ side_of (pos (rounded t q nat.Ordering.eq * d)) (pos (q * d + r))
       half true e = side_ceiling (omega arith)
       half false e = side-floor (omega arith)

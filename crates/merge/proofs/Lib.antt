@@ -2,5 +2,6 @@
 pub mod Merged
 pub mod State
 pub mod Walk
+pub mod Counting
 pub mod Writing
 pub mod Outcome

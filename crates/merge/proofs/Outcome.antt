@@ -1,29 +1,28 @@
 -- The outcome of a merge, by the first of its grounds that holds.
 use Prim.Native.Nat.{ℕ, ◌≤◌, ◌<◌}
-use mathlib.Core.Path.{◌≡◌, sym, ap, ◌∙◌}
+use mathlib.Core.Path.{◌≡◌, sym}
 use mathlib.Core.Bool.{true, false, not}
 use mathlib.Core.List.{List}
 use borrow.Author.Tests.{not-false, lt-ltb, le-ltb, ltb-false}
 use lib.Dec.{T}
 use lib.ListN.{length}
-use Rattle.refusal.specs.Outcome.{Outcome, accepted, refused, condition}
+use Rattle.refusal.specs.Outcome.{accepted, refused, condition}
 use Rattle.refusal.proofs.Outcomes.{accepted_not, accepted-value}
 use Rattle.lists.proofs.Booleans.{both_false}
 use Rattle.record.specs.Layout.{capacity}
 use Rattle.record.specs.Sound.{sound}
-use Rattle.record.specs.Section.{written}
-use Rattle.table.specs.Calls.{leaves, merge_leaves, overflows, merge_sections, merge_grounds, merge_outcome}
+use Rattle.table.specs.Calls.{overflows, merge_sections, merge_grounds, merge_outcome}
 use Rattle.lists.specs.Lists.{any_of}
 
 module _ (s : List ℕ) (g : ℕ) (s' : List ℕ) (g' : ℕ) where
-  pub not_sound₁ : sound s g ≡ false → refused 7 ≡ merge_outcome s g s' g'
+  pub first_not_sound : sound s g ≡ false → refused 7 ≡ merge_outcome s g s' g'
   unfolding merge_grounds
-  not_sound₁ p = rw p
+  first_not_sound p = rw p
 
   module _ (p : sound s g ≡ true) where
-    pub not_sound₂ : sound s' g' ≡ false → refused 7 ≡ merge_outcome s g s' g'
+    pub second_not_sound : sound s' g' ≡ false → refused 7 ≡ merge_outcome s g s' g'
     unfolding merge_grounds
-    not_sound₂ q = rw (p, q)
+    second_not_sound q = rw (p, q)
 
     module _ (q : sound s' g' ≡ true) where
       pub too_many_rows : any_of overflows (merge_sections s g s' g') ≡ true → refused 11 ≡ merge_outcome s g s' g'
@@ -31,9 +30,9 @@ module _ (s : List ℕ) (g : ℕ) (s' : List ℕ) (g' : ℕ) where
       too_many_rows r = rw (p, q, r)
 
       module _ (r : any_of overflows (merge_sections s g s' g') ≡ false) where
-        pub too_many_keys_lem : capacity (length s) < length (merge_sections s g s' g') → refused 12 ≡ merge_outcome s g s' g'
+        pub too_many_keys : capacity (length s) < length (merge_sections s g s' g') → refused 12 ≡ merge_outcome s g s' g'
         unfolding merge_grounds
-        too_many_keys_lem h = rw (p, q, r, lt-ltb (capacity (length s)) (length (merge_sections s g s' g')) h)
+        too_many_keys h = rw (p, q, r, lt-ltb (capacity (length s)) (length (merge_sections s g s' g')) h)
 
         pub fitting : length (merge_sections s g s' g') ≤ capacity (length s) → accepted (length (merge_sections s g s' g')) ≡ merge_outcome s g s' g'
         unfolding merge_grounds
@@ -60,10 +59,3 @@ module _ (s : List ℕ) (g : ℕ) (s' : List ℕ) (g' : ℕ) where
         groups = sym (accepted-value (merge_grounds s g s' g') (length us) (sym e));
         room = ltb-false (capacity (length s)) (length us) (none 12);
       }
-
-  -- the bytes that an accepted and a refused merge leave
-  pub leaves-written : {n : ℕ} {t : List ℕ} → accepted n ≡ merge_outcome s g s' g' → t ≡ written (merge_sections s g s' g') s → t ≡ merge_leaves s g s' g'
-  leaves-written e p = p ∙ ap (λ (o : Outcome ℕ). leaves o (merge_sections s g s' g') s) e
-
-  pub leaves-same : {n : ℕ} → refused n ≡ merge_outcome s g s' g' → s ≡ merge_leaves s g s' g'
-  leaves-same e = ap (λ (o : Outcome ℕ). leaves o (merge_sections s g s' g') s) e

@@ -21,12 +21,11 @@ use Rattle.record.specs.Sound.{sound_record, sound_records, sound}
 use Rattle.record.specs.Section.{Section, meaning, record_of, sections, section_bytes, written}
 use Rattle.record.proofs.Laws.{length-encode, decode-part}
 use Rattle.record.proofs.Sound.{sound_parts, sound_if}
-use Rattle.record.proofs.Found.{sound_record_at}
 use Rattle.table.specs.Calls.{most_rows, overflows}
 use Rattle.lists.specs.Lists.{any_of}
 use Rattle.lists.proofs.All.{All, all_append, all_map}
 use Rattle.lists.proofs.Any.{any_append}
-use Rattle.table.proofs.State.{record_meaning, length-sections, used-bytes}
+use Rattle.table.proofs.State.{length-sections, used-bytes}
 use Rattle.merge.specs.Steps.{key_at, count_at, section_in}
 use Rattle.merge.proofs.Merged.{KeysBelow}
 
@@ -94,10 +93,6 @@ below_all s (suc i) k h l =
     subst (KeysBelow k) (sym (sections_more s i p.fits))
     (all_append (λ (t : Section). t.key < k) (sections s i) (section_in s i ∷ [])
     (all_map (λ (t : Section). t.key < key_at s i) (λ (t : Section). t.key < k) (λ t a. lt_trans a m) (sections s i) p.keys_below) (m, tt))
-
--- each record of a sound table is the one of its section
-pub record_in : (s : List ℕ) (i a : ℕ) → T (sound s i) → a < i → record_at s (a * 64) ≡ record_of (section_in s a)
-record_in s i a h l = sym (record_meaning (record_at s (a * 64)) (sound_record_at s i a h l))
 
 -- its sections written over a sound table change no byte
 pub written_self : (s : List ℕ) (g : ℕ) → T (sound s g) → AreBytes s → written (sections s g) s ≡ s

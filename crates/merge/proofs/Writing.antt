@@ -18,12 +18,11 @@ use Rattle.table.specs.Combine.{merged}
 use Rattle.table.specs.Calls.{overflows, merge_sections}
 use Rattle.lists.specs.Lists.{any_of}
 use Rattle.table.proofs.Lookup.{merged-length}
-use Rattle.merge.specs.declared.Ends.{Ends}
-use Rattle.merge.specs.Steps.{last_section, StepBack}
+use Rattle.merge.specs.Steps.{last_section, LastTaken}
 use Rattle.table.proofs.State.{length-sections}
 use Rattle.merge.proofs.State.{written_self, written_more}
 use Rattle.table.proofs.State.{sections_agree, sound_agree}
-use Rattle.merge.proofs.Walk.{length_back, any_back, merge_none}
+use Rattle.merge.proofs.Walk.{length_more, any_more, merge_none}
 
 -- the sections of i and j records are still to be written, at the first k places of s; then s₀ has become what it is to be
 pub record Unwritten (s₀ : List ℕ) (g : ℕ) (s' : List ℕ) (g' : ℕ) (s : List ℕ) (i j k : ℕ) : Type 0 where
@@ -41,46 +40,46 @@ module _ {s₀ : List ℕ} {g : ℕ} {s' : List ℕ} {g' : ℕ} {s : List ℕ} {
   all_written h =
       sym (written_self s i t.sound₁ t.in_bytes) ∙ ap (λ (x : List Section). written x s) (sym (merge_none s s' i j h)) ∙ t.becomes
 
-  module _ {e : Ends} (b : StepBack s i s' j e) where
-    pub places_left : k ≡ length (merge_sections s e.i s' e.j) + 1
-    places_left = t.groups ∙ length_back b
+  module _ {i' j' : ℕ} (b : LastTaken s i s' j i' j') where
+    pub places_left : k ≡ length (merge_sections s i' s' j') + 1
+    places_left = t.groups ∙ length_more _ _ b.last_section_lem
 
-    pub no_overflow_last : overflows (last_section s i s' j e) ≡ false
-    no_overflow_last = (both_false (any_of overflows (merge_sections s e.i s' e.j)) (overflows (last_section s i s' j e)) (sym (any_back b) ∙ t.no_overflow)).1
+    pub no_overflow_last : overflows (last_section s i s' j i' j') ≡ false
+    no_overflow_last = (both_false (any_of overflows (merge_sections s i' s' j')) (overflows (last_section s i s' j i' j')) (sym (any_more _ _ b.last_section_lem) ∙ t.no_overflow)).1
 
     -- one section more
-    module _ {r : Record} {s₁ : List ℕ} (p : r ≡ record_of (last_section s i s' j e)) (q : s₁ ≡ sets s ((k - 1) * 64) (encode r)) where
-      places_fewer : k - 1 ≡ length (merge_sections s e.i s' e.j)
+    module _ {r : Record} {s₁ : List ℕ} (p : r ≡ record_of (last_section s i s' j i' j')) (q : s₁ ≡ sets s ((k - 1) * 64) (encode r)) where
+      places_fewer : k - 1 ≡ length (merge_sections s i' s' j')
       places_fewer = omega (arith, places_left)
 
-      under : e.i ≤ k - 1
-      under = omega (arith, places_fewer, merged-length (sections s e.i) (sections s' e.j), length-sections s e.i)
+      under : i' ≤ k - 1
+      under = omega (arith, places_fewer, merged-length (sections s i') (sections s' j'), length-sections s i')
 
       same-length₁ : length s₁ ≡ length s
       same-length₁ = ap length q ∙ length-sets s ((k - 1) * 64) (encode r)
 
-      read_same : take (e.i * 64) s₁ ≡ take (e.i * 64) s
-      read_same = ap (take (e.i * 64)) q ∙ take-sets s (encode r) ((k - 1) * 64) (e.i * 64) (omega (arith, under))
+      read_same : take (i' * 64) s₁ ≡ take (i' * 64) s
+      read_same = ap (take (i' * 64)) q ∙ take-sets s (encode r) ((k - 1) * 64) (i' * 64) (omega (arith, under))
 
-      read-within : e.i * 64 ≤ length s₁
+      read-within : i' * 64 ≤ length s₁
       read-within = omega (arith, under, same-length₁, t.fits)
 
-      sections-same : merge_sections s₁ e.i s' e.j ≡ merge_sections s e.i s' e.j
-      sections-same = ap (λ (x : List Section). merged x (sections s' e.j)) (sections_agree s₁ s e.i read_same read-within (rw (← same-length₁) read-within))
+      sections-same : merge_sections s₁ i' s' j' ≡ merge_sections s i' s' j'
+      sections-same = ap (λ (x : List Section). merged x (sections s' j')) (sections_agree s₁ s i' read_same read-within (rw (← same-length₁) read-within))
 
-      put_last : s₁ ≡ sets s (length (merge_sections s e.i s' e.j) * 64) (encode (record_of (last_section s i s' j e)))
+      put_last : s₁ ≡ sets s (length (merge_sections s i' s' j') * 64) (encode (record_of (last_section s i s' j i' j')))
       put_last = q ∙ ap₂ (λ (m : ℕ) (x : Record). sets s (m * 64) (encode x)) places_fewer p
 
-      pub left_less : AreBytes s₁ → Unwritten s₀ g s' g' s₁ e.i e.j (k - 1)
-      left_less h = record {
-        sound₁ = sound_agree s₁ s e.i read_same read-within (rw (← same-length₁) read-within) b.sound₁;
-        sound₂ = b.sound₂;
+      pub left_less : T (sound s i') → T (sound s' j') → AreBytes s₁ → Unwritten s₀ g s' g' s₁ i' j' (k - 1)
+      left_less h₁ h₂ h = record {
+        sound₁ = sound_agree s₁ s i' read_same read-within (rw (← same-length₁) read-within) h₁;
+        sound₂ = h₂;
         groups = places_fewer ∙ ap length (sym sections-same);
         fits = omega (arith, same-length₁, t.fits);
-        no_overflow = ap (any_of overflows) sections-same ∙ (both_false (any_of overflows (merge_sections s e.i s' e.j)) (overflows (last_section s i s' j e)) (sym (any_back b) ∙ t.no_overflow)).0;
+        no_overflow = ap (any_of overflows) sections-same ∙ (both_false (any_of overflows (merge_sections s i' s' j')) (overflows (last_section s i s' j i' j')) (sym (any_more _ _ b.last_section_lem) ∙ t.no_overflow)).0;
         becomes =
             ap₂ written sections-same put_last
-            ∙ written_more (merge_sections s e.i s' e.j) (last_section s i s' j e) s (omega (arith, places_left, t.fits))
+            ∙ written_more (merge_sections s i' s' j') (last_section s i s' j i' j') s (omega (arith, places_left, t.fits))
             ∙ ap (λ (x : List Section). written x s) (sym b.last_section_lem)
             ∙ t.becomes;
         same_length = same-length₁ ∙ t.same_length;

@@ -1,170 +1,183 @@
 // Merging one table into another, in place and without a work buffer.
 #![tactic(auto)]
 
-ghost use Rattle.std.specs.Prelude.{◌≡◌, false, ◌+◌, ◌*◌, ◌<◌, ◌≤◌, T, length};
+ghost use Rattle.std.specs.Prelude.{◌≡◌, true, false, ◌*◌, ◌<◌, ◌≤◌, T, MatchOption, length};
+ghost use Rattle.lists.specs.Lists.{any_of};
+ghost use Rattle.refusal.specs.Answer.{outcome_of};
 ghost use Rattle.record.specs.Sound.{sound};
 ghost use Rattle.record.specs.Section.{record_of, written};
-ghost use Rattle.table.specs.Calls.{most_rows, overflows, merge_sections, merge_outcome, merge_leaves};
-ghost use Rattle.lists.specs.Lists.{any_of};
-ghost use Rattle.table.specs.Answer.{table_answer};
-ghost use Rattle.merge.specs.Steps.{count_at, Within, last_section, StepBack};
+ghost use Rattle.table.specs.Calls.{overflows, merge_sections, merge_outcome, merge_leaves};
+ghost use Rattle.merge.specs.Steps.{WithoutLast, union, taken_section, StepBack};
 
 use record::Record;
 use refusal::Refusal;
-use table::TableAnswer;
+use soundness::SoundTable;
+use std::cmp::Ordering;
 
-// How many records of two tables are left, of each.
+// A sound table without its last record.
+fn without_last(t: SoundTable<'_>) -> SoundTable<'_>
+    requires some_left { 0 < t.groups }
+    ensures { WithoutLast t.entry result }
+{
+    SoundTable {
+        bytes: t.bytes,
+        groups: t.groups - 1,
+    }
+}
+
+// Two tables that are walked together, from their last records to their first.
 #[derive(Clone, Copy)]
-pub struct Ends {
-    pub i: usize,
-    pub j: usize,
+pub struct TablePair<'a, 'b> {
+    pub first: SoundTable<'a>,
+    pub second: SoundTable<'b>,
 }
 
-// What is left of two tables once the last section of their union is taken away.
-fn previous(first: &[u8], i: usize, second: &[u8], j: usize) -> Ends
-    requires t { T (sound first.now i) }
-    requires t_2 { T (sound second.now j) }
-    requires j_nonzero { 0 < j }
-    ensures { StepBack first.now i second.now j result }
-{
-    if i == 0 {
-        return Ends { i, j: j - 1 };
-    }
-    let x = codec::u32_at(first, (i - 1) * 64);
-    let y = codec::u32_at(second, (j - 1) * 64);
-    if x < y {
-        return Ends { i, j: j - 1 };
-    }
-    if x == y {
-        return Ends { i: i - 1, j: j - 1 };
-    }
-    Ends { i: i - 1, j }
-}
-
-// The row count of record i.
-fn count_at(t: &[u8], i: usize) -> u64
-    requires { i * 64 + 64 ≤ length t.now }
-    ensures { (result ≡ count_at t.now i) × (result ≤ most_rows) }
-{
-    codec::u32_at(t, i * 64 + 4) as u64
-}
-
-// The rows of the section that is taken away.
-fn last_count(first: &[u8], i: usize, second: &[u8], j: usize, e: Ends) -> u64
-    requires { Within first.now i second.now j e }
-    ensures { result ≡ (last_section first.now i second.now j e).count }
-{
-    if e.i == i {
-        return count_at(second, e.j);
-    }
-    if e.j == j {
-        return count_at(first, e.i);
-    }
-    count_at(first, e.i) + count_at(second, e.j)
-}
-
-// The record of the section that is taken away.
-fn last_record(first: &[u8], i: usize, second: &[u8], j: usize, e: Ends) -> Record
-    requires within { Within first.now i second.now j e }
-    requires t { T (sound first.now i) }
-    requires t_2 { T (sound second.now j) }
-    requires e_value { overflows (last_section first.now i second.now j e) ≡ false }
-    ensures { result ≡ record_of (last_section first.now i second.now j e) }
-{
-    if e.i == i {
-        return record::get(second, e.j);
-    }
-    if e.j == j {
-        return record::get(first, e.i);
-    }
-    table::combined(record::get(first, e.i), record::get(second, e.j))
-}
-
-// How many sections two tables have together, and whether one of them has more rows than its count can say.
-#[derive(Clone, Copy)]
-pub struct Union {
-    pub groups: usize,
-    pub overflow: bool,
-}
-
-fn united(first: &[u8], g1: usize, second: &[u8], g2: usize) -> Union
-    requires t { T (sound first.now g1) }
-    requires t_2 { T (sound second.now g2) }
-    ensures groups_value { result.groups ≡ length (merge_sections first.now g1 second.now g2) }
-    ensures overflow_value { result.overflow ≡ any_of overflows (merge_sections first.now g1 second.now g2) }
-{
-    let mut i = g1;
-    let mut j = g2;
-    let mut n = 0;
-    let mut overflow = false;
-    while 0 < j {
-        let e = previous(first, i, second, j);
-        if table::MOST_ROWS < last_count(first, i, second, j, e) {
-            overflow = true;
+impl<'a, 'b> TablePair<'a, 'b> {
+    // What is left once the last section of the union is taken away: that of the larger of the two last keys, and an equal key is taken from both.
+    #[tactic(auto, using(crate::proofs::Walk::second_back, crate::proofs::Walk::first_back, crate::proofs::Walk::both_back, std::proofs::lemmas::Cmp::ranked))]
+    fn previous(self) -> TablePair<'a, 'b>
+        requires some_left { 0 < self.second.groups }
+        ensures { StepBack self.entry result }
+    {
+        let first = self.first;
+        let second = self.second;
+        if first.groups == 0 {
+            return TablePair {
+                first,
+                second: without_last(second),
+            };
         }
-        i = e.i;
-        j = e.j;
-        n += 1;
+        let last = first.key(first.groups - 1);
+        match last.cmp(&second.key(second.groups - 1)) {
+            Ordering::Less => TablePair {
+                first,
+                second: without_last(second),
+            },
+            Ordering::Equal => TablePair {
+                first: without_last(first),
+                second: without_last(second),
+            },
+            Ordering::Greater => TablePair {
+                first: without_last(first),
+                second,
+            },
+        }
     }
-    Union {
-        groups: n + i,
-        overflow,
+
+    // The rows of the section that is taken away where `left` is what is left.
+    #[tactic(auto, using(crate::proofs::Walk::second_count, crate::proofs::Walk::first_count, crate::proofs::Walk::both_count))]
+    fn taken_count(self, left: TablePair<'_, '_>) -> u64
+        requires { StepBack self left }
+        ensures { result ≡ (taken_section self.entry left.entry).count }
+    {
+        let i = left.first.groups;
+        let j = left.second.groups;
+        if i == self.first.groups {
+            return self.second.count(j) as u64;
+        }
+        if j == self.second.groups {
+            return self.first.count(i) as u64;
+        }
+        self.first.count(i) as u64 + self.second.count(j) as u64
+    }
+
+    // The record of that section.
+    #[tactic(auto, using(crate::proofs::Walk::second_taken, crate::proofs::Walk::first_taken, crate::proofs::Walk::both_taken, crate::proofs::Walk::both_count, table::proofs::State::record_meaning))]
+    fn taken_record(self, left: TablePair<'_, '_>) -> Record
+        requires step { StepBack self left }
+        requires no_overflow { overflows (taken_section self left) ≡ false }
+        ensures { result ≡ record_of (taken_section self.entry left.entry) }
+    {
+        let i = left.first.groups;
+        let j = left.second.groups;
+        if i == self.first.groups {
+            return self.second.record(j).raw;
+        }
+        if j == self.second.groups {
+            return self.first.record(i).raw;
+        }
+        table::combined(self.first.record(i), self.second.record(j))
+    }
+
+    // How many sections two tables have together, unless one of them has more rows than its count can say.
+    fn united(self) -> Option<usize>
+        ensures { MatchOption result (any_of overflows (union self.entry) ≡ true) (λ n. (any_of overflows (union self.entry) ≡ false) × (n ≡ length (union self.entry))) }
+    {
+        let mut both = self;
+        let mut n = 0;
+        // Kept: two tables are walked back at once, each step as their keys say, which no range says.
+        while 0 < both.second.groups {
+            let left = both.previous();
+            if table::MOST_ROWS < both.taken_count(left) {
+                return None;
+            }
+            both = left;
+            n += 1;
+        }
+        Some(n + both.first.groups)
     }
 }
 
 // The sections of both tables, `groups` of them, written from the last one to the first.
-fn write_union(first: &mut [u8], g1: usize, second: &[u8], g2: usize, groups: usize)
-    requires t { T (sound first.old g1) }
-    requires t_2 { T (sound second.now g2) }
-    requires g2_value { any_of overflows (merge_sections first.old g1 second.now g2) ≡ false }
-    requires groups_value { groups ≡ length (merge_sections first.old g1 second.now g2) }
-    requires groups_in_bounds { groups * 64 ≤ length first.old }
-    ensures { first.new ≡ written (merge_sections first.old g1 second.now g2) first.old }
+// Kept: the first table's bytes are written, so they can't be lent as a sound table's as well, and its soundness stays a clause.
+#[tactic(auto, using(crate::proofs::Writing::no_overflow_last, crate::proofs::Writing::all_written))]
+fn write_union(first: &mut [u8], g1: usize, second_table: SoundTable<'_>, groups: usize)
+    requires first_sound { T (sound first.old g1) }
+    requires no_overflow { any_of overflows (merge_sections first.old g1 second_table.bytes.now second_table.groups) ≡ false }
+    requires union_groups { groups ≡ length (merge_sections first.old g1 second_table.bytes.now second_table.groups) }
+    requires in_bounds { groups * 64 ≤ length first.old }
+    ensures { first.new ≡ written (merge_sections first.old g1 second_table.entry.bytes.now second_table.entry.groups) first.old }
 {
     let mut a = g1;
-    let mut b = g2;
+    let mut b = second_table.groups;
     let mut k = groups;
+    // Kept: two tables are walked back at once, as in united.
     while 0 < b {
-        let e = previous(first, a, second, b);
-        let r = last_record(first, a, second, b, e);
+        let both = TablePair {
+            first: SoundTable {
+                bytes: first,
+                groups: a,
+            },
+            second: SoundTable {
+                bytes: second_table.bytes,
+                groups: b,
+            },
+        };
+        let left = both.previous();
+        let r = both.taken_record(left);
+        a = left.first.groups;
+        b = left.second.groups;
         k -= 1;
         record::put(first, k, r);
-        a = e.i;
-        b = e.j;
     }
 }
 
 // What a merge answers; it is known before a byte is written.
-fn decide(first: &[u8], g1: usize, second: &[u8], g2: usize) -> TableAnswer
-    ensures { table_answer result ≡ merge_outcome first.now g1 second.now g2 }
+#[tactic(auto, using(crate::proofs::Outcome::first_not_sound, crate::proofs::Outcome::second_not_sound, crate::proofs::Outcome::too_many_rows, crate::proofs::Outcome::too_many_keys, crate::proofs::Outcome::fitting))]
+fn decide(first: &[u8], g1: usize, second: &[u8], g2: usize) -> Result<usize, Refusal>
+    ensures { outcome_of result ≡ merge_outcome first.now g1 second.now g2 }
 {
-    if !soundness::is_sound(first, g1) {
-        return TableAnswer::Refused(Refusal::TableNotSound);
-    }
-    if !soundness::is_sound(second, g2) {
-        return TableAnswer::Refused(Refusal::TableNotSound);
-    }
-    let u = united(first, g1, second, g2);
-    if u.overflow {
-        return TableAnswer::Refused(Refusal::TooManyRows);
-    }
-    let groups = u.groups;
+    let both = TablePair {
+        first: SoundTable::new(first, g1).ok_or(Refusal::TableNotSound)?,
+        second: SoundTable::new(second, g2).ok_or(Refusal::TableNotSound)?,
+    };
+    let groups = both.united().ok_or(Refusal::TooManyRows)?;
     if record::capacity(first.len()) < groups {
-        return TableAnswer::Refused(Refusal::TooManyKeys);
+        return Err(Refusal::TooManyKeys);
     }
-    TableAnswer::Groups(groups)
+    Ok(groups)
 }
 
 // Document 01's merge: the sections of the second table brought into the first.
-pub fn merge(first: &mut [u8], g1: usize, second: &[u8], g2: usize) -> TableAnswer
-    ensures answer { table_answer result ≡ merge_outcome first.old g1 second.now g2 }
+pub fn merge(first: &mut [u8], g1: usize, second: &[u8], g2: usize) -> Result<usize, Refusal>
+    ensures answer { outcome_of result ≡ merge_outcome first.old g1 second.now g2 }
     ensures content { first.new ≡ merge_leaves first.old g1 second.now g2 }
 {
-    match decide(first, g1, second, g2) {
-        TableAnswer::Groups(n) => {
-            write_union(first, g1, second, g2, n);
-            TableAnswer::Groups(n)
-        }
-        TableAnswer::Refused(r) => TableAnswer::Refused(r),
-    }
+    let united = decide(first, g1, second, g2)?;
+    let second_table = SoundTable {
+        bytes: second,
+        groups: g2,
+    };
+    write_union(first, g1, second_table, united);
+    Ok(united)
 }

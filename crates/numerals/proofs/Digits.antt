@@ -1,17 +1,9 @@
 -- How many digits a number has, and that they are its last digits. The idea: a number of two digits and more has one more than its tenth part.
-use Prim.Native.Nat.{ℕ, zero, suc, ◌+◌, ◌*◌, ◌/◌, ◌%◌, ◌^◌, ◌<◌, ◌≤◌}
-use mathlib.Core.Path.{◌≡◌, refl, ap, ◌∙◌}
-use mathlib.Core.List.{List, [], ◌∷◌, ◌++◌}
-use native.Mathlib.Nat.{mod-eq_of_lt, pow-suc}
-use native.Mathlib.Omega.{arith}
-use native.Mathlib.Numerals.{add-one}
+use Rattle.std.proofs.Common.{◌≡◌, ℕ, zero, suc, ◌+◌, ◌-◌, ◌*◌, ◌/◌, ◌%◌, ◌^◌, ◌<◌, ◌≤◌, max, Bool, true, false, cond, List, [], ◌∷◌, ◌++◌, length, drop, set, refl, sym, ap, ◌∙◌, append_assoc, add-one, mod-eq_of_lt, length-append, ltb, arith}
+use Rattle.std.proofs.Math.Nat.{one-le-pow, pow-suc}
+use Rattle.std.proofs.lemmas.Grind.{drop-set_at}
 use native.Mathlib.Decide.{dec_le}
 use borrow.Author.Tests.{lt-ltb, le-ltb, ltb-false}
-use mathlib.Core.Bool.{Bool, true, false, cond}
-use lib.Dec.{ltb}
-use lib.ListN.{length, set, length-append}
-use lib.Seq.{sets}
-use Rattle.codec.proofs.Laws.{sets_swap}
 use Rattle.numerals.specs.Numerals.{digit, digits, decimal_in, decimal}
 
 pub length_digits : (b w n : ℕ) → length (digits b w n) ≡ w
@@ -19,10 +11,14 @@ unfolding digits
 length_digits b zero n = refl
 length_digits b (suc w) n = length-append (digits b w (n / b)) (digit (n % b) ∷ []) ∙ omega (arith, length_digits b w (n / b))
 
--- the last digit may be stored first
-pub last_digit_first : (b w n : ℕ) (s : List ℕ) (at : ℕ) → sets (set s (at + w) (digit (n % b))) at (digits b w (n / b)) ≡ sets s at (digits b (suc w) n)
+-- the last digit put in front of those that stand there
+pub last_digit_put : (b k n : ℕ) (s : List ℕ) → 0 < k → k ≤ length s
+    → digits b (k - 1) (n / b) ++ drop (k - 1) (set s (k - 1) (digit (n % b))) ≡ digits b k n ++ drop k s
 unfolding digits
-last_digit_first b w n s at = sets_swap s (digits b w (n / b)) (digit (n % b) ∷ []) at w (length_digits b w (n / b))
+last_digit_put b zero n s h l = absurd (omega arith)
+last_digit_put b (suc k) n s h l =
+    let e : suc k - 1 ≡ k = omega arith in
+    rw (e, drop-set_at s k k (digit (n % b)) refl (omega arith), add-one) (sym (append_assoc (digits b k (n / b)) (digit (n % b) ∷ []) (drop (suc k) s)))
 
 -- enough steps are enough
 steps : (j k n : ℕ) → n < j → n < k → decimal_in j n ≡ decimal_in k n
@@ -61,6 +57,27 @@ few_digits (suc k) n h =
   where
     shorter : 10 ≤ n → n / 10 < 10 ^ suc k
     shorter l = let e : n < 10 ^ suc k * 10 = rw pow-suc at h in omega arith
+
+-- from 10^k on there are more than k digits
+many_digits : (k n : ℕ) → 10 ^ k ≤ n → suc k ≤ length (decimal n)
+many_digits zero n h =
+    elim (dec_le 10 n) [
+      | yes l ↦ omega (arith, length_more n l)
+      | no l ↦ omega (arith, length-one n (omega arith))
+    ]
+many_digits (suc k) n h =
+    let e : 10 ^ k * 10 ≤ n = rw pow-suc at h in
+    let l : 10 ≤ n = omega (arith, one-le-pow k 10) in
+    omega (arith, length_more n l, many_digits k (n / 10) (omega arith))
+
+-- the logarithm to 10, rounded down, is one less than the number of digits; that of 0 counts as that of 1
+pub digits_by_log : (k n : ℕ) → 10 ^ k ≤ max n 1 → max n 1 < 10 * 10 ^ k → k + 1 ≡ length (decimal n)
+digits_by_log zero n low high = omega (arith, length-one n (omega arith))
+digits_by_log (suc k) n low high =
+    let e : 10 ^ k * 10 ≤ max n 1 = rw pow-suc at low in
+    let l : 10 ≤ n = omega (arith, one-le-pow k 10) in
+    let f : n < 10 ^ suc (suc k) = rw pow-suc (omega arith) in
+    omega (arith, many_digits (suc k) n (omega arith), few_digits (suc k) n f)
 
 -- a number's digits are its last ones
 last_in : (k n : ℕ) → n < k → digits 10 (length (decimal n)) n ≡ decimal n

@@ -1,5 +1,5 @@
 -- Laws that the proofs cite.
 pub mod Digits
+pub mod Edits
 pub mod Signs
 pub mod Size
-pub mod Texts

@@ -1,17 +1,15 @@
--- A 32-bit whole number in decimal, by its sign.
-use Prim.Native.Nat.{ℕ}
-use mathlib.Core.Path.{◌≡◌, ap, ◌∙◌}
-use mathlib.Core.List.{◌∷◌}
-use native.Mathlib.Omega.{arith}
-use lib.IntN.{ℤ, nat_abs}
-use mir.Syntax.{w32}
-use Rattle.integers.proofs.Width.{BelowZero, FromZero}
+-- A whole number in decimal, by its sign.
+use Rattle.std.proofs.Common.{◌≡◌, ◌∷◌, true, false, ℤ, pos, negsuc, nat_abs, refl, arith}
+use borrow.Author.Tests.{ltb-true}
+use lib.Signed.{lt_z}
 use Rattle.numerals.specs.Numerals.{decimal, integer}
 
-pub below_text : (z : ℤ) → BelowZero w32 z → integer z ≡ 0x2D ∷ decimal (nat_abs z)
+pub negative_text : (z : ℤ) → lt_z z (pos 0) ≡ true → integer z ≡ 0x2D ∷ decimal (nat_abs z)
 unfolding integer
-below_text z h = ap integer h.is ∙ ap (λ (n : ℕ). 0x2D ∷ decimal n) (omega (arith, h.least))
+negative_text (pos n) e = absurd (omega (arith, ltb-true n 0 e))
+negative_text (negsuc n) e = refl
 
-pub from_text : (z : ℤ) → FromZero w32 z → integer z ≡ decimal (nat_abs z)
+pub unsigned_text : (z : ℤ) → lt_z z (pos 0) ≡ false → integer z ≡ decimal (nat_abs z)
 unfolding integer
-from_text z h = ap integer h.is
+unsigned_text (pos n) e = refl
+unsigned_text (negsuc n) e = cc

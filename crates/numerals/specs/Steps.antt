@@ -1,12 +1,5 @@
--- What the steps of printing promise each other.
-use Rattle.std.specs.Prelude.{ℕ, ◌+◌, ◌≤◌, ◌≡◌, List, ◌++◌, take}
-
--- the first r bytes of s' are the first `at` bytes of s and then w; r is at most k more than `at`
-pub record Continued (s : List ℕ) (at : ℕ) (w : List ℕ) (k : ℕ) (s' : List ℕ) (r : ℕ) : Type 0 where
-  pub continues : take r s' ≡ take at s ++ w
-  pub growth : r ≤ at + k
-
--- ---- the most bytes that each numeral takes
+-- The most bytes that each numeral takes.
+use Rattle.std.specs.Prelude.{ℕ, ◌+◌}
 
 -- a 32-bit number in decimal
 abbrev pub longest_decimal : ℕ

@@ -1,14 +1,6 @@
 -- A call that is lent a buffer for its output alone: what its answer says, when the buffer is too short, and what it holds afterwards.
 use Rattle.std.specs.Prelude.{ℕ, List, ◌++◌, ltb, length, drop}
-use Rattle.refusal.specs.Number.{number_of}
 use Rattle.refusal.specs.Outcome.{Outcome, accepted, refused, Ground, ground}
-use Rattle.output.specs.declared.OutputAnswer.{OutputAnswer}
-use Rattle.output.specs.declared.OutputAnswer.TheVariants.{Length, Refused}
-
--- the length of what was written, or the refusal's number
-abbrev pub output_answer : OutputAnswer → Outcome ℕ
-output_answer (Length n) = accepted n
-output_answer (Refused r) = refused (number_of r)
 
 -- refusal 16: the output has out_len bytes, and n are to be written
 abbrev pub output_ground : ℕ → ℕ → Ground

@@ -1,11 +1,2 @@
-// What a call answers that is lent a buffer for its output alone.
+// What a call that is lent a buffer for its output alone says and leaves: definitions and laws only, no code.
 #![tactic(auto)]
-
-use refusal::Refusal;
-
-// How many bytes were written, or why none was.
-#[derive(Clone, Copy)]
-pub enum OutputAnswer {
-    Length(usize),
-    Refused(Refusal),
-}

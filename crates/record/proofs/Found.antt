@@ -12,7 +12,7 @@ use lib.ListN.{length, get_or}
 use Rattle.lists.proofs.Booleans.{never}
 use Rattle.codec.proofs.Cells.{length-cells}
 use Rattle.record.specs.declared.Record.{Record}
-use Rattle.record.specs.declared.Place.TheVariants.{Index, Gap}
+use Rattle.std.specs.Prelude.{Ok, Err}
 use Rattle.record.specs.Layout.{records, record_at, decode}
 use Rattle.record.specs.Keys.{record_keys, rising, has, place}
 use Rattle.record.specs.Section.{Section, meaning, sections, find}
@@ -48,7 +48,7 @@ sound_record_at s g i h l =
 
 module _ (s : List ℕ) (g k i : ℕ) (h : T (sound s g)) where
   -- the record at the place of a key
-  pub found : Index i ≡ place k (record_keys (records s g)) → (i * 64 + 64 ≤ length s) × (find k (sections s g) ≡ some (meaning (record_at s (i * 64)))) × T (sound_record (record_at s (i * 64)))
+  pub found : Ok i ≡ place k (record_keys (records s g)) → (i * 64 + 64 ≤ length s) × (find k (sections s g) ≡ some (meaning (record_at s (i * 64)))) × T (sound_record (record_at s (i * 64)))
   found e =
       let p = sound_parts s g h in
       let w = place_is_at k (record_keys (records s g)) i p.2 e in
@@ -60,7 +60,7 @@ module _ (s : List ℕ) (g k i : ℕ) (h : T (sound s g)) where
         sound_record_at s g i h l,
       )
 
-  pub missing : Gap i ≡ place k (record_keys (records s g)) → find k (sections s g) ≡ none
+  pub missing : Err i ≡ place k (record_keys (records s g)) → find k (sections s g) ≡ none
   missing e = find_none k (records s g) (place_is_gap k (record_keys (records s g)) i e).1
 
 -- a section that is found has the number that was looked for

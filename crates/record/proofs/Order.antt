@@ -13,7 +13,7 @@ use borrow.Author.Tests.{lt-ltb, le-ltb, eq-eqb, ne_eqb, ltb-true, ltb-false, eq
 use lib.ListN.{length, get_or, take, drop}
 use Rattle.lists.proofs.Booleans.{both_false}
 use Rattle.record.specs.Keys.{rising, count_below, has, place}
-use Rattle.record.specs.declared.Place.TheVariants.{Index, Gap}
+use Rattle.std.specs.Prelude.{Ok, Err}
 
 -- the first key is below all the others
 head_lt : (x : ℕ) (xs : List ℕ) → T (rising (x ∷ xs)) → (j : ℕ) → j < length xs → x < get_or xs j 0
@@ -79,10 +79,10 @@ module _ (k : ℕ) where
   has_no [] h = refl
   has_no (x ∷ xs) h = rw (ne_eqb x k (h 0 (omega arith))) (has_no xs (λ i l. h (suc i) (omega arith)))
 
-  pub place_at : (ks : List ℕ) (b : ℕ) → b ≡ count_below k ks → b < length ks → get_or ks b 0 ≡ k → Index b ≡ place k ks
+  pub place_at : (ks : List ℕ) (b : ℕ) → b ≡ count_below k ks → b < length ks → get_or ks b 0 ≡ k → Ok b ≡ place k ks
   place_at ks b e l h = rw (has_yes ks b l h, e)
 
-  pub place_gap : (ks : List ℕ) → T (rising ks) → (b : ℕ) → b ≡ count_below k ks → (b < length ks → get_or ks b 0 ≡ k → ⊥) → Gap b ≡ place k ks
+  pub place_gap : (ks : List ℕ) → T (rising ks) → (b : ℕ) → b ≡ count_below k ks → (b < length ks → get_or ks b 0 ≡ k → ⊥) → Err b ≡ place k ks
   place_gap ks r b e h = rw (has_no ks no, e)
     where
       no : (i : ℕ) → i < length ks → get_or ks i 0 ≡ k → ⊥
@@ -93,7 +93,7 @@ module _ (k : ℕ) where
           (eq-or-lt_of_le m)
 
   -- where k stands among rising keys, it stands there alone
-  pub place_of : (ks : List ℕ) (i : ℕ) → T (rising ks) → i < length ks → get_or ks i 0 ≡ k → Index i ≡ place k ks
+  pub place_of : (ks : List ℕ) (i : ℕ) → T (rising ks) → i < length ks → get_or ks i 0 ≡ k → Ok i ≡ place k ks
   place_of ks i r l e = place_at ks i (sym (first (eq-or-lt_of_le (below_ge ks r i l (omega arith))))) l e
     where
       first : (count_below k ks ≡ i) ⊎ (count_below k ks < i) → count_below k ks ≡ i
@@ -142,10 +142,10 @@ has-true k (x ∷ xs) e = by (eqb x k) refl e (has-true k xs)
     by false q e ih = let w = ih e in (suc w.0, omega arith, w.2)
 
 module _ (k : ℕ) (ks : List ℕ) (i : ℕ) where
-  pub place_is_at : T (rising ks) → Index i ≡ place k ks → (i < length ks) × (get_or ks i 0 ≡ k)
+  pub place_is_at : T (rising ks) → Ok i ≡ place k ks → (i < length ks) × (get_or ks i 0 ≡ k)
   place_is_at r e = by (has k ks) refl e
     where
-      by : (b : Bool) → has k ks ≡ b → Index i ≡ cond b (Index (count_below k ks)) (Gap (count_below k ks)) → (i < length ks) × (get_or ks i 0 ≡ k)
+      by : (b : Bool) → has k ks ≡ b → Ok i ≡ cond b (Ok (count_below k ks)) (Err (count_below k ks)) → (i < length ks) × (get_or ks i 0 ≡ k)
       by true q e =
           let w = has-true k ks q in
           let n : i ≡ count_below k ks = cc in
@@ -155,9 +155,9 @@ module _ (k : ℕ) (ks : List ℕ) (i : ℕ) where
           (eq-or-lt_of_le m)
       by false q e = let z : ◌≡◌ {A = ℕ} 0 1 = cc in absurd (omega arith)
 
-  pub place_is_gap : Gap i ≡ place k ks → (i ≡ count_below k ks) × (has k ks ≡ false)
+  pub place_is_gap : Err i ≡ place k ks → (i ≡ count_below k ks) × (has k ks ≡ false)
   place_is_gap e = by (has k ks) e
     where
-      by : (b : Bool) → Gap i ≡ cond b (Index (count_below k ks)) (Gap (count_below k ks)) → (i ≡ count_below k ks) × (b ≡ false)
+      by : (b : Bool) → Err i ≡ cond b (Ok (count_below k ks)) (Err (count_below k ks)) → (i ≡ count_below k ks) × (b ≡ false)
       by true e = let z : ◌≡◌ {A = ℕ} 0 1 = cc in absurd (omega arith)
       by false e = (cc, refl)

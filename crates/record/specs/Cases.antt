@@ -4,7 +4,7 @@ use Rattle.codec.specs.Bytes.{number, bytes, number_at}
 use Rattle.codec.specs.Cells.{cells}
 use Rattle.level.specs.declared.SplitTotal.{SplitTotal}
 use Rattle.record.specs.declared.Record.{Record}
-use Rattle.record.specs.declared.Place.TheVariants.{Index, Gap}
+use Rattle.std.specs.Prelude.{Ok, Err}
 use Rattle.record.specs.Layout.{decode, encode, records}
 use Rattle.record.specs.Keys.{record_keys, rising, count_below, has, place}
 use Rattle.level.specs.Carry.{total_of}
@@ -41,11 +41,11 @@ twice_not : sound (encode sample_record ++ encode sample_record) 2 ≡ false
 unfolding sound sound_records sound_record sound_total is_zero rising cells decode encode bytes number_at number
 twice_not = refl
 
-place_found : place 7 (record_keys (records one_record 1)) ≡ Index 0
+place_found : place 7 (record_keys (records one_record 1)) ≡ Ok 0
 unfolding has count_below cells decode encode bytes number_at number
 place_found = refl
 
-place_between : place 8 (record_keys (records one_record 1)) ≡ Gap 1
+place_between : place 8 (record_keys (records one_record 1)) ≡ Err 1
 unfolding has count_below cells decode encode bytes number_at number
 place_between = refl
 

@@ -1,8 +1,8 @@
 -- The order of a table's keys, and the place of a key among them.
 use Rattle.std.specs.Prelude.{ℕ, suc, Bool, true, false, cond, ◌&&◌, ◌||◌, List, [], ◌∷◌, map, ltb, eqb}
 use Rattle.record.specs.declared.Record.{Record}
-use Rattle.record.specs.declared.Place.{Place}
-use Rattle.record.specs.declared.Place.TheVariants.{Index, Gap}
+use Rattle.std.specs.Prelude.{Result}
+use Rattle.std.specs.Prelude.{Ok, Err}
 
 -- the keys of records
 abbrev pub record_keys : List Record → List ℕ
@@ -25,5 +25,5 @@ has k [] = false
 has k (x ∷ xs) = eqb x k || has k xs
 
 -- where k stands, or would have to stand
-abbrev pub place : ℕ → List ℕ → Place
-place k ks = cond (has k ks) (Index (count_below k ks)) (Gap (count_below k ks))
+abbrev pub place : ℕ → List ℕ → Result ℕ ℕ
+place k ks = cond (has k ks) (Ok (count_below k ks)) (Err (count_below k ks))

@@ -6,8 +6,10 @@ ghost use Rattle.std.proofs.lemmas.List.Edits.{sets};
 ghost use Rattle.record.specs.Layout.{total_at, record_at, encode_total, encode, decode, records};
 ghost use Rattle.record.specs.Keys.{record_keys, rising, place};
 
+use codec::Field;
 use level::SplitTotal;
 
+// A record's fields, as they stand in its 64 bytes.
 #[derive(Clone, Copy)]
 pub struct Record {
     pub key: u32,
@@ -19,39 +21,42 @@ pub struct Record {
     pub low: SplitTotal,
 }
 
+// The total in the 16 bytes from at on.
 fn get_total(t: &[u8], at: usize) -> SplitTotal
     requires { at + 16 ≤ length t.now }
     ensures { result ≡ total_at t.now at }
 {
     SplitTotal {
-        residue: codec::u64_at(t, at),
-        carry: codec::i64_at(t, at + 8),
+        residue: u64::read(t, at),
+        carry: i64::read(t, at + 8),
     }
 }
 
 // Record i.
+// Kept: that it lies within the bytes stays a clause here and in put, which read and write any bytes; of a sound table the methods of SoundTable know it.
 pub fn get(t: &[u8], i: usize) -> Record
     requires { i * 64 + 64 ≤ length t.now }
     ensures { result ≡ record_at t.now (i * 64) }
 {
     let at = i * 64;
     Record {
-        key: codec::u32_at(t, at),
-        count: codec::u32_at(t, at + 4),
-        top: codec::u32_at(t, at + 8),
-        finest: codec::u32_at(t, at + 12),
+        key: u32::read(t, at),
+        count: u32::read(t, at + 4),
+        top: u32::read(t, at + 8),
+        finest: u32::read(t, at + 12),
         high: get_total(t, at + 16),
         middle: get_total(t, at + 32),
         low: get_total(t, at + 48),
     }
 }
 
+// The 16 bytes from at on become the total.
 fn put_total(t: &mut [u8], at: usize, x: SplitTotal)
     requires { at + 16 ≤ length t.old }
     ensures { t.new ≡ sets t.old at (encode_total x) }
 {
-    codec::put_u64(t, at, x.residue);
-    codec::put_i64(t, at + 8, x.carry);
+    x.residue.write(t, at);
+    x.carry.write(t, at + 8);
 }
 
 // Record i becomes r.
@@ -60,20 +65,13 @@ pub fn put(t: &mut [u8], i: usize, r: Record)
     ensures { (t.new ≡ sets t.old (i * 64) (encode r)) × (decode (encode r) ≡ r) }
 {
     let at = i * 64;
-    codec::put_u32(t, at, r.key);
-    codec::put_u32(t, at + 4, r.count);
-    codec::put_u32(t, at + 8, r.top);
-    codec::put_u32(t, at + 12, r.finest);
+    r.key.write(t, at);
+    r.count.write(t, at + 4);
+    r.top.write(t, at + 8);
+    r.finest.write(t, at + 12);
     put_total(t, at + 16, r.high);
     put_total(t, at + 32, r.middle);
     put_total(t, at + 48, r.low);
-}
-
-// Where a key stands among the records, or how many stand before the place where it would.
-#[derive(Clone, Copy)]
-pub enum Place {
-    Index(usize),
-    Gap(usize),
 }
 
 // 1 for x below y, else 0, by a quotient that is 2 or 1: that of y - x and 2^33 - 1 by 2^32. The compiler makes a jump of a comparison, and none of this.
@@ -83,24 +81,24 @@ fn is_below(x: u32, y: u32) -> usize
     (((y as u64) + 8589934591 - (x as u64)) >> 32) as usize - 1
 }
 
-pub fn binary_search(t: &[u8], g: usize, key: u32) -> Place
+// Where a key stands among the records (Ok), or how many stand before the place where it would (Err).
+pub fn binary_search(t: &[u8], g: usize, key: u32) -> Result<usize, usize>
     requires { (g * 64 ≤ length t.now) × T (rising (record_keys (records t.now g))) }
     ensures { result ≡ place key (record_keys (records t.now g)) }
 {
     // The steps depend on g alone, and each chooses a number, not a way through the code.
+    // Kept: the records are bytes of a lent buffer and no slice of records, which the library could search; each step halves what is left, which no range says.
     let mut lo = 0;
     let mut n = g;
     while 0 < n {
         let half = (n + 1) / 2;
-        lo += half * is_below(codec::u32_at(t, (lo + half - 1) * 64), key);
+        lo += half * is_below(u32::read(t, (lo + half - 1) * 64), key);
         n -= half;
     }
-    if lo < g {
-        if codec::u32_at(t, lo * 64) == key {
-            return Place::Index(lo);
-        }
+    if lo < g && u32::read(t, lo * 64) == key {
+        return Ok(lo);
     }
-    Place::Gap(lo)
+    Err(lo)
 }
 
 // Record r is put before record i of g; the later ones move up.
@@ -119,6 +117,5 @@ const MOST_GROUPS: usize = 1024;
 pub fn capacity(n: usize) -> usize
     ensures { result ≡ Rattle.record.specs.Layout.capacity n }
 {
-    let all = n / 64;
-    if all < MOST_GROUPS { all } else { MOST_GROUPS }
+    (n / 64).min(MOST_GROUPS)
 }

@@ -32,31 +32,33 @@ pub enum Refusal {
 }
 
 // The number that document 01 or a card gives a refusal.
-pub fn number_of(r: Refusal) -> u32
-    ensures { result ≡ number_of r }
-{
-    match r {
-        Refusal::FileTooLong => 1,
-        Refusal::FileTooShort => 2,
-        Refusal::MarkMissing => 3,
-        Refusal::KeyDistance => 4,
-        Refusal::ValueDistance => 5,
-        Refusal::ColumnsOverlap => 6,
-        Refusal::TableNotSound => 7,
-        Refusal::WorkTooShort => 8,
-        Refusal::ColumnLengths => 9,
-        Refusal::RowNotFinite => 10,
-        Refusal::TooManyRows => 11,
-        Refusal::TooManyKeys => 12,
-        Refusal::SectionAbsent => 13,
-        Refusal::SumTooLarge => 14,
-        Refusal::FigureTooLarge => 15,
-        Refusal::OutputTooShort => 16,
-        Refusal::TooManyFileRows => 17,
-        Refusal::TooManyFileGroups => 18,
-        Refusal::SavedTableLayout => 19,
-        Refusal::TooFewRows => 20,
-        Refusal::RaisesTop => 21,
-        Refusal::TotalExceeds => 22,
+impl From<Refusal> for u32 {
+    ghost from_gives = { λ r n. n ≡ number_of r };
+
+    fn from(r: Refusal) -> u32 {
+        match r {
+            Refusal::FileTooLong => 1,
+            Refusal::FileTooShort => 2,
+            Refusal::MarkMissing => 3,
+            Refusal::KeyDistance => 4,
+            Refusal::ValueDistance => 5,
+            Refusal::ColumnsOverlap => 6,
+            Refusal::TableNotSound => 7,
+            Refusal::WorkTooShort => 8,
+            Refusal::ColumnLengths => 9,
+            Refusal::RowNotFinite => 10,
+            Refusal::TooManyRows => 11,
+            Refusal::TooManyKeys => 12,
+            Refusal::SectionAbsent => 13,
+            Refusal::SumTooLarge => 14,
+            Refusal::FigureTooLarge => 15,
+            Refusal::OutputTooShort => 16,
+            Refusal::TooManyFileRows => 17,
+            Refusal::TooManyFileGroups => 18,
+            Refusal::SavedTableLayout => 19,
+            Refusal::TooFewRows => 20,
+            Refusal::RaisesTop => 21,
+            Refusal::TotalExceeds => 22,
+        }
     }
 }

@@ -3,15 +3,15 @@ use Rattle.std.specs.Prelude.{ℕ, ◌≡◌, true, false, List, [], ◌∷◌, 
 use Rattle.std.proofs.Math.Option.{Option}
 use Rattle.refusal.specs.Outcome.{Outcome, ground, outcome}
 use Rattle.record.specs.Section.{Section}
-use Rattle.remove.specs.declared.Standing.{Standing}
-use Rattle.remove.specs.declared.Standing.TheVariants.{Short, Enough}
+use Rattle.std.specs.Prelude as prelude
+use Rattle.remove.specs.declared.Enough.{Enough}
 use Rattle.remove.specs.Remaining.{remaining, has_fewer, has_lower, too_few_rows, raises_top}
 use Rattle.remove.specs.Calls.{patch_grounds, leaves_fewer}
 
 -- how the patch's section p stands to what is held of it
-abbrev pub Stands : Option Section → Section → Standing → Type 0
-Stands t p Short = has_fewer t p ≡ true
-Stands t p (Enough low hint) = (has_fewer t p ≡ false) × (has_lower t p ≡ low)
+abbrev pub Stands : Option Section → Section → prelude.Option Enough → Type 0
+Stands t p prelude.None = has_fewer t p ≡ true
+Stands t p (prelude.Some e) = (has_fewer t p ≡ false) × (has_lower t p ≡ e.too_low)
 
 -- 20 and 21 alone
 abbrev pub compared_outcome : List Section → List Section → Outcome (Unit {0})

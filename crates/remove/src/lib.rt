@@ -1,132 +1,124 @@
 // Taking the rows of two columns back out of a table: all of them or none. The patch's own table is made in the work buffer; the table is written only when the removal is known to be accepted.
 #![tactic(auto)]
 
-ghost use Rattle.std.specs.Prelude.{◌≡◌, true, false, ◌+◌, ◌*◌, ◌≤◌, ◌<◌, T, length};
+ghost use Rattle.std.specs.Prelude.{◌≡◌, true, false, ◌*◌, ◌≤◌, ◌<◌, T, length};
 ghost use Rattle.lists.specs.Lists.{any_of};
 ghost use Rattle.level.specs.Level.{below};
 ghost use Rattle.level.specs.Carry.{carry_base, split_of};
 ghost use Rattle.columns.specs.Columns.{columns_fit};
 ghost use Rattle.record.specs.Layout.{record_at};
-ghost use Rattle.record.specs.Sound.{sound, sound_record};
+ghost use Rattle.record.specs.Sound.{sound};
 ghost use Rattle.record.specs.Section.{sections, meaning, record_of, find, written};
 ghost use Rattle.table.specs.Calls.{overflows, cleared};
-ghost use Rattle.table.specs.Answer.{table_answer, check_answer};
+ghost use Rattle.refusal.specs.Answer.{outcome_of};
 ghost use Rattle.overflow.specs.Counts.{count_in};
 ghost use Rattle.remove.specs.Remaining.{without_at, without, without_if, remaining, exceeds_for, too_few_rows, total_exceeds};
 ghost use Rattle.remove.specs.Calls.{patch_sections, remove_outcome, remove_leaves};
 ghost use Rattle.remove.specs.Steps.{Stands, compared_outcome, TakenOut};
 
-use absorb::Absorbed;
-use columns::Kind;
+use columns::Columns;
 use level::SplitTotal;
-use record::{Place, Record};
+use record::Record;
 use refusal::Refusal;
-use table::{ColumnCheck, TableAnswer};
+use soundness::{SoundRecord, SoundTable};
 
 // What r holds d levels below its top without what p holds there; below level 0 there is nothing.
-fn total_without(r: Record, p: Record, d: u32) -> SplitTotal
-    requires t { T (sound_record r) }
-    requires t_2 { T (sound_record p) }
-    ensures { result ≡ split_of (below (without_at (meaning r) (meaning p)) r.top d) }
+fn total_without(r: SoundRecord, p: SoundRecord, d: u32) -> SplitTotal
+    ensures { result ≡ split_of (below (without_at (meaning r.raw) (meaning p.raw)) r.raw.top d) }
 {
-    if r.top < d {
+    if r.raw.top < d {
         return table::nothing();
     }
-    let j = r.top - d;
-    level::subtract_totals(table::split_in(r, j), table::split_in(p, j))
+    let j = r.raw.top - d;
+    level::subtract_totals(table::split_in(r.raw, j), table::split_in(p.raw, j))
 }
 
 // A held record without the patch's record p of its section.
-fn record_without(r: Record, p: Record) -> Record
-    requires t { T (sound_record r) }
-    requires t_2 { T (sound_record p) }
-    requires count_le_count { p.count ≤ r.count }
-    ensures { result ≡ record_of (without (meaning r) (meaning p)) }
+fn record_without(r: SoundRecord, p: SoundRecord) -> Record
+    requires { p.raw.count ≤ r.raw.count }
+    ensures { result ≡ record_of (without (meaning r.raw) (meaning p.raw)) }
 {
     Record {
-        key: r.key,
-        count: r.count - p.count,
-        top: r.top,
-        finest: r.finest,
+        key: r.raw.key,
+        count: r.raw.count - p.raw.count,
+        top: r.raw.top,
+        finest: r.raw.finest,
         high: total_without(r, p, 0),
         middle: total_without(r, p, 1),
         low: total_without(r, p, 2),
     }
 }
 
-// How the patch's record i stands to the table: the table has fewer rows of its section, or at least as many, perhaps at a lower top. `hint` is the place that the patch's next section tries
+// What is known of a section that has at least as many rows in the table as in the patch: whether it is held at a lower top. `hint` is the place that the patch's next section tries
 // first; a wrong place would cost time alone, so that nothing is promised of it.
 #[derive(Clone, Copy)]
-enum Standing {
-    Short,
-    Enough { too_low: bool, hint: usize },
+struct Enough {
+    too_low: bool,
+    hint: usize,
 }
 
-fn compare_section(table: &[u8], g: usize, patch: &[u8], i: usize, hint: usize) -> Standing
-    requires t { T (sound table.now g) }
-    requires i_in_bounds { i * 64 + 64 ≤ length patch.now }
-    ensures { Stands (find (record_at patch.now (i * 64)).key (sections table.now g)) (meaning (record_at patch.now (i * 64))) result }
+// How the patch's record i stands to any table; None where that has fewer rows.
+fn compare_section(
+    t: SoundTable<'_>,
+    patch: SoundTable<'_>,
+    i: usize,
+    hint: usize,
+) -> Option<Enough>
+    requires { i < patch.groups }
+    ensures { Stands (find (record_at patch.entry.bytes.now (i * 64)).key (sections t.entry.bytes.now t.entry.groups)) (meaning (record_at patch.entry.bytes.now (i * 64))) result }
 {
-    let at = i * 64;
-    match absorb::locate(table, g, hint, codec::u32_at(patch, at)) {
-        Place::Gap(_) => Standing::Short,
-        Place::Index(j) => {
-            let held = j * 64;
-            if codec::u32_at(table, held + 4) < codec::u32_at(patch, at + 4) {
-                return Standing::Short;
+    match absorb::locate_in(t, hint, patch.key(i)) {
+        Err(_) => None,
+        Ok(j) => {
+            if t.count(j) < patch.count(i) {
+                return None;
             }
-            Standing::Enough {
-                too_low: codec::u32_at(table, held + 8) < codec::u32_at(patch, at + 8),
+            Some(Enough {
+                too_low: t.top(j) < patch.top(i),
                 hint: j + 1,
-            }
+            })
         }
     }
 }
 
-// Whether the table has at least as many rows of each of the patch's n sections, and none at a lower top: 20 and 21.
-fn compare_sections(table: &[u8], g: usize, patch: &[u8], n: usize) -> ColumnCheck
-    requires t { T (sound table.now g) }
-    requires t_2 { T (sound patch.now n) }
-    ensures { check_answer result ≡ compared_outcome (sections table.now g) (sections patch.now n) }
+// Whether the table has at least as many rows of each of the patch's sections, and none at a lower top: 20 and 21.
+fn compare_sections(t: SoundTable<'_>, patch: SoundTable<'_>) -> Result<(), Refusal>
+    ensures { outcome_of result ≡ compared_outcome (sections t.entry.bytes.now t.entry.groups) (sections patch.entry.bytes.now patch.entry.groups) }
 {
     let mut any_too_low = false;
     let mut hint = 0;
-    let mut i = 0;
-    while i < n {
-        let Standing::Enough { too_low, hint: at } = compare_section(table, g, patch, i, hint)
-        else {
-            return ColumnCheck::Refused(Refusal::TooFewRows);
+    for i in 0..patch.groups {
+        let Some(e) = compare_section(t, patch, i, hint) else {
+            return Err(Refusal::TooFewRows);
         };
-        any_too_low = soundness::either(any_too_low, too_low);
-        hint = at;
-        i += 1;
+        any_too_low |= e.too_low;
+        hint = e.hint;
     }
     if any_too_low {
-        return ColumnCheck::Refused(Refusal::RaisesTop);
+        return Err(Refusal::RaisesTop);
     }
-    ColumnCheck::Good
+    Ok(())
 }
 
 // A held record without what the patch has for its section, and the place that the next section tries first, of which nothing is promised.
 #[derive(Clone, Copy)]
 struct Reduction {
-    pub remaining: Record,
-    pub hint: usize,
+    remaining: Record,
+    hint: usize,
 }
 
-fn reduce(r: Record, patch: &[u8], n: usize, hint: usize) -> Reduction
-    requires t { T (sound_record r) }
-    requires t_2 { T (sound patch.now n) }
-    requires n_bound { count_in r.key (sections patch.now n) ≤ r.count }
-    ensures { result.remaining ≡ record_of (without_if (meaning r) (find r.key (sections patch.now n))) }
+// The record r, reduced by what the patch has for its section.
+fn reduce(r: SoundRecord, patch: SoundTable<'_>, hint: usize) -> Reduction
+    requires { count_in r.raw.key (sections patch.bytes.now patch.groups) ≤ r.raw.count }
+    ensures { result.remaining ≡ record_of (without_if (meaning r.raw) (find r.raw.key (sections patch.entry.bytes.now patch.entry.groups))) }
 {
-    match absorb::locate(patch, n, hint, r.key) {
-        Place::Index(i) => Reduction {
-            remaining: record_without(r, record::get(patch, i)),
+    match absorb::locate_in(patch, hint, r.raw.key) {
+        Ok(i) => Reduction {
+            remaining: record_without(r, patch.record(i)),
             hint: i + 1,
         },
-        Place::Gap(i) => Reduction {
-            remaining: r,
+        Err(i) => Reduction {
+            remaining: r.raw,
             hint: i,
         },
     }
@@ -147,85 +139,74 @@ fn exceeds_for(r: Record, count: u32) -> bool
 }
 
 // Whether a remaining total would be too large for the remaining rows: 22.
-fn any_exceeds(table: &[u8], g: usize, patch: &[u8], n: usize) -> bool
-    requires t { T (sound table.now g) }
-    requires t_2 { T (sound patch.now n) }
-    requires n_value { too_few_rows (sections table.now g) (sections patch.now n) ≡ false }
-    ensures { result ≡ total_exceeds (sections table.now g) (sections patch.now n) }
+fn any_exceeds(t: SoundTable<'_>, patch: SoundTable<'_>) -> bool
+    requires { too_few_rows (sections t.bytes.now t.groups) (sections patch.bytes.now patch.groups) ≡ false }
+    ensures { result ≡ total_exceeds (sections t.entry.bytes.now t.entry.groups) (sections patch.entry.bytes.now patch.entry.groups) }
 {
     let mut hint = 0;
-    let mut i = 0;
-    while i < g {
-        let held = record::get(table, i);
-        let x = reduce(held, patch, n, hint);
+    for i in 0..t.groups {
+        let held = t.record(i);
+        let x = reduce(held, patch, hint);
         if exceeds_for(x.remaining, x.remaining.count) {
             return true;
         }
         hint = x.hint;
-        i += 1;
     }
     false
 }
 
 // The records that remain, moved down over those that go; how many they are.
-fn keep_remaining(table: &mut [u8], g: usize, patch: &[u8], n: usize) -> usize
-    requires t { T (sound table.old g) }
-    requires t_2 { T (sound patch.now n) }
-    requires n_value { too_few_rows (sections table.old g) (sections patch.now n) ≡ false }
-    ensures { (result ≡ length (remaining (sections table.old g) (sections patch.now n))) × (table.new ≡ written (remaining (sections table.old g) (sections patch.now n)) table.old) }
+// Kept: the bytes are written, and between two writes they hold no sound table, so that soundness is a clause and no type; so it is in the callers.
+fn keep_remaining(table: &mut [u8], g: usize, patch: SoundTable<'_>) -> usize
+    requires sound_table { T (sound table.old g) }
+    requires enough_rows { too_few_rows (sections table.old g) (sections patch.bytes.now patch.groups) ≡ false }
+    ensures { (result ≡ length (remaining (sections table.old g) (sections patch.entry.bytes.now patch.entry.groups))) × (table.new ≡ written (remaining (sections table.old g) (sections patch.entry.bytes.now patch.entry.groups)) table.old) }
 {
     let mut kept = 0;
     let mut hint = 0;
-    let mut i = 0;
-    while i < g {
-        let x = reduce(record::get(table, i), patch, n, hint);
+    for i in 0..g {
+        let raw = record::get(table, i);
+        let x = reduce(SoundRecord { raw }, patch, hint);
         if 0 < x.remaining.count {
             record::put(table, kept, x.remaining);
             kept += 1;
         }
         hint = x.hint;
-        i += 1;
     }
     kept
 }
 
-// The patch's n sections taken out of the table, unless 20, 21 or 22 holds; what the records that remain do not use of the former ones becomes zero.
-fn subtract_patch(table: &mut [u8], g: usize, patch: &[u8], n: usize) -> TableAnswer
-    requires t { T (sound table.old g) }
-    requires t_2 { T (sound patch.now n) }
-    ensures { TakenOut table.old g (sections table.old g) (sections patch.now n) (table_answer result) table.new }
+// The patch taken out of the table, unless 20, 21 or 22 holds; what the records that remain do not use of the former ones becomes zero.
+fn subtract_patch(table: &mut [u8], g: usize, patch: SoundTable<'_>) -> Result<usize, Refusal>
+    requires { T (sound table.old g) }
+    ensures { TakenOut table.old g (sections table.old g) (sections patch.entry.bytes.now patch.entry.groups) (outcome_of result) table.new }
 {
-    match compare_sections(table, g, patch, n) {
-        ColumnCheck::Refused(r) => TableAnswer::Refused(r),
-        ColumnCheck::Good => {
-            if any_exceeds(table, g, patch, n) {
-                return TableAnswer::Refused(Refusal::TotalExceeds);
-            }
-            let kept = keep_remaining(table, g, patch, n);
-            codec::clear_part(table, kept * 64, g * 64);
-            TableAnswer::Groups(kept)
-        }
+    let held = SoundTable::known(table, g);
+    compare_sections(held, patch)?;
+    if any_exceeds(held, patch) {
+        return Err(Refusal::TotalExceeds);
     }
+    let kept = keep_remaining(table, g, patch);
+    codec::clear_part(table, kept * 64, g * 64);
+    Ok(kept)
 }
 
 // Good columns made a table of their own in the work buffer, and taken out. A patch of more sections than the table holds has one that is absent.
 fn remove_in(
     table: &mut [u8],
     g: usize,
-    keys: &[u8],
-    values: &[u8],
-    kind: Kind,
+    columns: Columns<'_>,
     work: &mut [u8],
-) -> TableAnswer
-    requires t { T (sound table.old g) }
-    requires table_in_bounds { length table.old ≤ length work.old }
-    requires values_value { columns_fit kind keys.now values.now ≡ true }
-    requires values_value_2 { any_of overflows (patch_sections kind keys.now values.now) ≡ false }
-    ensures { TakenOut table.old g (sections table.old g) (patch_sections kind keys.now values.now) (table_answer result) table.new }
+) -> Result<usize, Refusal>
+    requires sound_table { T (sound table.old g) }
+    requires work_as_long { length table.old ≤ length work.old }
+    requires fit { columns_fit columns.kind columns.keys.now columns.values.now ≡ true }
+    requires no_overflow { any_of overflows (patch_sections columns.kind columns.keys.now columns.values.now) ≡ false }
+    ensures { TakenOut table.old g (sections table.old g) (patch_sections columns.entry.kind columns.entry.keys.now columns.entry.values.now) (outcome_of result) table.new }
 {
-    match add::add_rows(work, 0, g, keys, values, kind) {
-        Absorbed::Into { groups, last: _ } => subtract_patch(table, g, work, groups),
-        Absorbed::NoRoom => TableAnswer::Refused(Refusal::TooFewRows),
+    match add::add_rows(work, 0, g, columns) {
+        Some(n) => subtract_patch(table, g, SoundTable::known(work, n)),
+        None => Err(Refusal::TooFewRows),
     }
 }
 
@@ -233,39 +214,33 @@ fn remove_in(
 fn remove_checked(
     table: &mut [u8],
     g: usize,
-    keys: &[u8],
-    values: &[u8],
-    kind: Kind,
+    columns: Columns<'_>,
     work: &mut [u8],
-) -> TableAnswer
-    ensures answer { table_answer result ≡ remove_outcome kind table.old g keys.now values.now (length work.old) }
-    ensures content { table.new ≡ remove_leaves kind table.old g keys.now values.now (length work.old) }
+) -> Result<usize, Refusal>
+    ensures answer { outcome_of result ≡ remove_outcome columns.entry.kind table.old g columns.entry.keys.now columns.entry.values.now (length work.old) }
+    ensures content { table.new ≡ remove_leaves columns.entry.kind table.old g columns.entry.keys.now columns.entry.values.now (length work.old) }
 {
-    match table::check_columns(table, g, keys, values, kind, work.len()) {
-        ColumnCheck::Refused(r) => TableAnswer::Refused(r),
-        ColumnCheck::Good => {
-            if overflow::any_overflow(work, 0, keys) {
-                return TableAnswer::Refused(Refusal::TooFewRows);
-            }
-            remove_in(table, g, keys, values, kind, work)
-        }
+    table::check_columns(table, g, columns, work.len())?;
+    let too_many = overflow::any_overflow(SoundTable::known(work, 0), columns.keys);
+    if too_many {
+        Err(Refusal::TooFewRows)
+    } else {
+        remove_in(table, g, columns, work)
     }
 }
 
-// Removes the rows of the two columns, whose values are of a kind: all of them, or none. The work buffer holds only zeros afterwards.
+// Removes the rows of the two columns: all of them, or none. The work buffer holds only zeros afterwards.
 pub fn remove(
     table: &mut [u8],
     g: usize,
-    keys: &[u8],
-    values: &[u8],
-    kind: Kind,
+    columns: Columns<'_>,
     work: &mut [u8],
-) -> TableAnswer
-    ensures answer { table_answer result ≡ remove_outcome kind table.old g keys.now values.now (length work.old) }
-    ensures content { table.new ≡ remove_leaves kind table.old g keys.now values.now (length work.old) }
+) -> Result<usize, Refusal>
+    ensures answer { outcome_of result ≡ remove_outcome columns.entry.kind table.old g columns.entry.keys.now columns.entry.values.now (length work.old) }
+    ensures content { table.new ≡ remove_leaves columns.entry.kind table.old g columns.entry.keys.now columns.entry.values.now (length work.old) }
     ensures work { work.new ≡ cleared work.old }
 {
-    let answer = remove_checked(table, g, keys, values, kind, work);
+    let answer = remove_checked(table, g, columns, work);
     codec::clear(work);
     answer
 }

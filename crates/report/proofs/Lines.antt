@@ -1,14 +1,14 @@
--- A line in the buffer, a section's line by its finished line, and the sections of a sound table in their places. The idea: each piece continues the text
--- before it, so that a line is the pieces one after the other.
-use Prim.Native.Nat.{ℕ, suc, ◌+◌, ◌*◌, ◌<◌, ◌≤◌}
+-- A section's line by its finished line, and the sections of a sound table in their places.
+use Prim.Native.Nat.{ℕ, zero, suc, ◌*◌, ◌<◌, ◌≤◌}
 use mathlib.Core.Path.{◌≡◌, sym, ap, ◌∙◌}
-use mathlib.Core.List.{List, ◌++◌}
+use mathlib.Core.List.{List, [], ◌∷◌, ◌++◌, append_assoc}
 use mathlib.Core.Option.{some}
 use native.Mathlib.Omega.{arith}
 use lib.Dec.{T}
 use lib.IntN.{ℤ}
-use lib.ListN.{length, get_or, take}
+use lib.ListN.{length, get_or, take, length-append}
 use lib.Seq.{take-suc}
+use lib.Ieee.{binary64, to_bits}
 use lib.Ieee.Scale.{finite}
 use Rattle.codec.specs.Cells.{image}
 use Rattle.codec.proofs.Cells.{image_snoc}
@@ -20,22 +20,18 @@ use Rattle.record.specs.Sound.{sound}
 use Rattle.record.proofs.Laws.{get_d_sections}
 use Rattle.record.proofs.Sound.{sound_parts}
 use Rattle.table.proofs.State.{length-sections}
+use Rattle.limbs.specs.Side.{side_number}
 use Rattle.finish.specs.Finish.{sum_of, figure_of, figure_for, figure_grounds, line_of, line_for}
 use Rattle.finish.specs.declared.FinishedLine.{FinishedLine}
 use Rattle.finish.proofs.Outcomes.{line-given}
-use Rattle.numerals.specs.Numerals.{decimal}
-use Rattle.numerals.specs.Steps.{Continued}
-use Rattle.numerals.proofs.Texts.{then_ended}
-use Rattle.report.specs.Text.{space, line_feed, last_fields, line_with, finished_text, line_text}
-use Rattle.report.specs.Steps.{longest_key_and_count}
+use Rattle.numerals.specs.Numerals.{decimal, integer, hexadecimal}
+use Rattle.report.specs.Text.{space, line_feed, figure_fields, last_fields, line_with, finished_text, line_text}
 
--- ---- a line in the buffer
-
--- section and row count, then what follows them with its line feed
-pub line_printed : {s s₁ s₂ : List ℕ} {at k r₁ r₂ : ℕ} (key count : ℕ) (last : List ℕ) → Continued s at (decimal key ++ space ++ decimal count ++ space) longest_key_and_count s₁ r₁ → Continued s₁ r₁ (last ++ line_feed) k s₂ r₂
-    → Continued s at (line_with key count last) (longest_key_and_count + k) s₂ r₂
-unfolding line_with
-line_printed key count last start fields = then_ended last line_feed start fields
+-- ---- a finished line, piece by piece
+pub line_pieces : (l : FinishedLine)
+    → finished_text l ≡ decimal l.key ++ space ++ decimal l.count ++ space ++ hexadecimal (to_bits binary64 l.sum) ++ space ++ integer l.figure ++ space ++ integer (side_number l.side) ++ line_feed
+unfolding line_with last_fields figure_fields
+line_pieces l = simp append_assoc
 
 -- ---- the line of a section
 
@@ -62,12 +58,16 @@ module _ (s : List ℕ) (g i : ℕ) (ok : T (sound s g)) (h : i < g) where
   abbrev here : Section
   here = meaning (record_at s (i * 64))
 
-  pub section_within : i * 64 + 64 ≤ length s
-  section_within = omega (arith, (sound_parts s g ok).0)
-
   -- one more line
   pub more_lines : image line_text (take (suc i) (sections s g)) ≡ image line_text (take i (sections s g)) ++ line_text here
   more_lines =
       ap (image line_text) (take-suc (sections s g) i here (omega (arith, length-sections s g)))
       ∙ image_snoc line_text (take i (sections s g)) (get_or (sections s g) i here)
       ∙ ap (λ (t : Section). image line_text (take i (sections s g)) ++ line_text t) (get_d_sections s g (sound_parts s g ok).0 i (record_at s (i * 64)) h)
+
+-- the lines of the first sections are no longer than those of all
+pub few_lines : (n : ℕ) (ts : List Section) → length (image line_text (take n ts)) ≤ length (image line_text ts)
+unfolding image
+few_lines zero ts = omega arith
+few_lines (suc n) [] = omega arith
+few_lines (suc n) (t ∷ ts) = simp length-append (omega (arith, few_lines n ts))

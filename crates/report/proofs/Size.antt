@@ -1,5 +1,5 @@
 -- The report of a file is at most 4,096 bytes long: its head line has 34, each of at most 64 lines at most 58, and the total line at most 48.
-use Prim.Native.Nat.{ℕ, ◌-◌, ◌*◌, ◌^◌, ◌<◌, ◌≤◌}
+use Prim.Native.Nat.{ℕ, ◌*◌, ◌^◌, ◌<◌, ◌≤◌}
 use mathlib.Core.Path.{◌≡◌, refl}
 use mathlib.Core.Bool.{false}
 use mathlib.Core.List.{List, [], ◌∷◌, ◌++◌}
@@ -9,29 +9,31 @@ use borrow.Author.Tests.{ltb-false}
 use lib.Dec.{lit≤}
 use lib.IntN.{ℤ, nat_abs}
 use lib.Ieee.{Float, binary64, to_bits}
-use lib.ListN.{length, drop, length-append}
+use lib.ListN.{length, length-append}
 use Rattle.codec.specs.Cells.{image}
-use Rattle.codec.proofs.Laws.{AreBytes, take-bytes, drop-bytes}
+use Rattle.codec.proofs.Laws.{AreBytes}
 use Rattle.refusal.specs.Outcome.{Outcome, accepted, refused}
 use Rattle.refusal.proofs.Outcomes.{accepted_not, accepted-value, refused-below}
 use Rattle.lists.proofs.All.{All}
 use Rattle.columns.specs.declared.Kind.{Kind}
-use Rattle.patch.specs.File.{row_count, key_distance, kind_of, read_grounds, read_outcome, FileRows, file_outcome, key_column, value_column}
-use Rattle.patch.proofs.File.{key-column, said_accepted, said_refused}
+use Rattle.patch.specs.declared.FileRows.{FileRows}
+use Rattle.patch.specs.File.{row_count, kind_of, read_grounds, read_outcome, file_outcome, key_column, value_column}
+use Rattle.patch.proofs.File.{key-bytes, said_refused}
 use Rattle.record.specs.Section.{Section}
 use Rattle.table.specs.Calls.{column_grounds, add_grounds, add_sections, add_outcome}
 use Rattle.table.proofs.Bytes.{Storable}
 use Rattle.totals.specs.Totals.{row_total, table_totals}
 use Rattle.totals.proofs.Rows.{row-total-bound}
-use Rattle.limbs.specs.declared.Side.{Side}
-use Rattle.limbs.specs.declared.Side.TheVariants.{Less, Equal, Greater}
+use Rattle.std.specs.declared.cmp.Ordering.{Ordering}
+use Rattle.std.specs.declared.cmp.Ordering.TheVariants.{Less, Equal, Greater}
 use Rattle.limbs.specs.Side.{side_number}
 use Rattle.finish.specs.Figure.{largest_figure, beyond}
-use Rattle.finish.specs.Finish.{RoundedSum, sum_for, figure_for, sum_grounds, figure_grounds, sum_of, figure_of}
+use Rattle.finish.specs.declared.RoundedSum.{RoundedSum}
+use Rattle.finish.specs.Finish.{sum_for, figure_for, sum_grounds, figure_grounds, sum_of, figure_of}
 use Rattle.numerals.specs.Numerals.{decimal_in, decimal, integer, hexadecimal}
 use Rattle.numerals.specs.Steps.{longest_integer}
 use Rattle.numerals.proofs.Size.{length-decimal, length_u64, length-integer, length-hexadecimal}
-use Rattle.report.specs.Text.{space, line_feed, head_line, refusal_text, figure_fields, last_fields, line_with, line_text, total_word, total_line, table_text, table_bytes, empty_table, add_text, columns_text, file_text, report_text}
+use Rattle.report.specs.Text.{space, line_feed, head_line, refusal_text, figure_fields, last_fields, line_with, line_text, total_line, table_text, table_bytes, empty_table, add_text, columns_text, file_text, report_text}
 use Rattle.report.specs.Steps.{longest_side, longest_refusal, longest_refused_fields, longest_line, longest_total_line, longest_text}
 use Rattle.report.proofs.Whole.{columns_left}
 
@@ -40,7 +42,7 @@ length-figure : (z : ℤ) → beyond z ≡ false → length (integer z) ≤ long
 unfolding beyond
 length-figure z e = length-integer z (omega (arith, ltb-false largest_figure (nat_abs z) e))
 
-length-side : (d : Side) → length (integer (side_number d)) ≤ longest_side
+length-side : (d : Ordering) → length (integer (side_number d)) ≤ longest_side
 unfolding integer decimal decimal_in
 length-side Less = lit≤ tt
 length-side Equal = lit≤ tt
@@ -59,13 +61,10 @@ unfolding last_fields figure_fields
 length_last s = by (sum_of (some s)) (figure_of (some s)) refl refl
   where
     after-bits : (x : Float) (l : List ℕ) → length l ≤ longest_refusal → length (hexadecimal (to_bits binary64 x) ++ space ++ l) ≤ longest_refused_fields
-    after-bits x l h =
-        let bits-text = hexadecimal (to_bits binary64 x) in
-        omega (arith, length-append (bits-text ++ space) l, length-append bits-text space, length-hexadecimal (to_bits binary64 x))
+    after-bits x l h = simp length-append (omega (arith, length-hexadecimal (to_bits binary64 x)))
 
-    after-figure : (z : ℤ) (d : Side) → beyond z ≡ false → length (integer z ++ space ++ integer (side_number d)) ≤ longest_refusal
-    after-figure z d e =
-        omega (arith, length-append (integer z ++ space) (integer (side_number d)), length-append (integer z) space, length-figure z e, length-side d)
+    after-figure : (z : ℤ) (d : Ordering) → beyond z ≡ false → length (integer z ++ space ++ integer (side_number d)) ≤ longest_refusal
+    after-figure z d e = simp length-append (omega (arith, length-figure z e, length-side d))
 
     by : (o : Outcome RoundedSum) (f : Outcome ℤ) → sum_of (some s) ≡ o → figure_of (some s) ≡ f → length (last_fields o f) ≤ longest_refused_fields
     by (refused n) f d e = omega (arith, length-refusal n (omega (arith, refused-below 100 (sum_grounds s) (sum_for s) refl d)))
@@ -74,46 +73,21 @@ length_last s = by (sum_of (some s)) (figure_of (some s)) refl refl
 
 length-line : (s : Section) → Storable s → length (line_text s) ≤ longest_line
 unfolding line_text line_with
-length-line s f =
-    let last = last_fields (sum_of (some s)) (figure_of (some s)) in
-    let a = decimal s.key in
-    let b = decimal s.count in
-    omega (
-      arith,
-      length-append (a ++ space ++ b ++ space ++ last) line_feed,
-      length-append (a ++ space ++ b ++ space) last,
-      length-append (a ++ space ++ b) space,
-      length-append (a ++ space) b,
-      length-append a space,
-      length-decimal s.key f.proper.key,
-      length-decimal s.count (omega (arith, f.few)),
-      length_last s,
-    )
+length-line s f = simp length-append (omega (arith, length-decimal s.key f.proper.key, length-decimal s.count (omega (arith, f.few)), length_last s))
 
 length-lines : (ts : List Section) → All Storable ts → length (image line_text ts) ≤ longest_line * length ts
 unfolding image
 length-lines [] a = omega arith
-length-lines (t ∷ ts) a = omega (arith, length-append (line_text t) (image line_text ts), length-line t a.0, length-lines ts a.1)
+length-lines (t ∷ ts) a = simp length-append (omega (arith, length-line t a.0, length-lines ts a.1))
 
 -- each row count has 32 bits, and there are fewer than 2^32 of them
 length-totals : (ts : List Section) → All Storable ts → length ts < 2 ^ 32 → length (total_line (table_totals ts)) ≤ longest_total_line
 unfolding total_line
-length-totals ts a h =
-    let g = decimal (length ts) in
-    let n = decimal (row_total ts) in
-    omega (
-      arith,
-      length-append (total_word ++ g ++ space ++ n) line_feed,
-      length-append (total_word ++ g ++ space) n,
-      length-append (total_word ++ g) space,
-      length-append total_word g,
-      length_u64 (length ts) (omega arith),
-      length_u64 (row_total ts) (omega (arith, row-total-bound ts a)),
-    )
+length-totals ts a h = simp length-append (omega (arith, length_u64 (length ts) (omega arith), length_u64 (row_total ts) (omega (arith, row-total-bound ts a))))
 
 -- ---- the whole text
 length-refused : (n : ℕ) → n < 100 → length (refusal_text n ++ line_feed) ≤ longest_text
-length-refused n h = omega (arith, length-append (refusal_text n) line_feed, length-refusal n (omega arith))
+length-refused n h = simp length-append (omega (arith, length-refusal n (omega arith)))
 
 add-number : (kind : Kind) (ks vs : List ℕ) {n : ℕ} → add_outcome kind empty_table 0 ks vs table_bytes ≡ refused n → n < 100
 unfolding add_grounds column_grounds
@@ -135,23 +109,13 @@ length_columns kind ks vs b = by (add_outcome kind empty_table 0 ks vs table_byt
         let l = columns_left kind ks vs g b e in
         let room : g ≤ 64 = l.room in
         let all : All Storable ts = rw (← l.has-sections) l.table.storable in
-        omega (
-          arith,
-          l.groups,
-          length-append (head_line ++ image line_text ts) (total_line (table_totals ts)),
-          length-append head_line (image line_text ts),
-          length-lines ts all,
-          length-totals ts all (omega (arith, l.groups)),
-        )
+        simp length-append (omega (arith, l.groups, length-lines ts all, length-totals ts all (omega (arith, l.groups))))
     by (refused n) e = length-refused n (add-number kind ks vs e)
 
 pub length-report : (f : List ℕ) → AreBytes f → length (report_text f) ≤ longest_text
 unfolding report_text file_text
 length-report f b = by (file_outcome f) refl
   where
-    key-bytes : (kind : Kind) (n : ℕ) → read_outcome kind f ≡ accepted n → AreBytes (key_column kind f)
-    key-bytes kind n e = rw (key-column kind f e) (take-bytes (4 * n) (drop (length f - key_distance f) f) (drop-bytes (length f - key_distance f) f b))
-
     by : (o : Outcome FileRows) → file_outcome f ≡ o → length (file_text o f) ≤ longest_text
-    by (accepted r) e = length_columns r.kind (key_column r.kind f) (value_column r.kind f) (key-bytes r.kind r.count (said_accepted f e))
+    by (accepted r) e = length_columns r.kind (key_column r.kind f) (value_column r.kind f) (key-bytes r.kind f b)
     by (refused n) e = length-refused n (read_number (kind_of f) f ((said_refused f n).0 e))

@@ -1,11 +1,8 @@
--- The whole text by the outcomes of reading and adding, and printing it into a lent buffer.
-use Prim.Native.Nat.{ℕ, ◌<◌, ◌≤◌}
+-- The whole text by the outcomes of reading and adding, and what a lent buffer holds after it.
+use Prim.Native.Nat.{ℕ, ◌≤◌}
 use mathlib.Core.Path.{◌≡◌, refl, sym, ap, ◌∙◌}
-use mathlib.Core.List.{List, [], ◌∷◌, ◌++◌}
-use native.Mathlib.Omega.{arith}
-use borrow.Author.Tests.{lt-ltb, le-ltb}
-use lib.ListN.{length, take, drop}
-use lib.Seq.{length-take-le}
+use mathlib.Core.List.{List, [], ◌∷◌, ◌++◌, append_assoc}
+use lib.ListN.{length}
 use Rattle.codec.proofs.Laws.{AreBytes}
 use Rattle.refusal.specs.Outcome.{accepted, refused}
 use Rattle.refusal.proofs.Outcomes.{accepted-within}
@@ -13,15 +10,17 @@ use Rattle.output.specs.Output.{output_ground}
 use Rattle.columns.specs.declared.Kind.{Kind}
 use Rattle.columns.specs.declared.Kind.TheVariants.{Double}
 use Rattle.columns.specs.Columns.{as_doubles}
-use Rattle.patch.specs.File.{kind_of, FileRows, file_outcome, key_column, value_column}
+use Rattle.patch.specs.declared.FileRows.{FileRows}
+use Rattle.patch.specs.File.{kind_of, file_outcome, key_column, value_column}
 use Rattle.patch.proofs.File.{said_kind}
-use Rattle.record.specs.Section.{sections}
+use Rattle.codec.specs.Cells.{image}
+use Rattle.record.specs.Section.{Section, sections}
+use Rattle.totals.specs.Totals.{table_totals}
 use Rattle.table.specs.Calls.{add_sections, add_outcome, add_leaves}
 use Rattle.table.proofs.AsDoubles.{made_alike}
 use Rattle.table.proofs.Accepted.{AcceptedTable, proper_none, add_left}
-use Rattle.report.specs.Text.{table_bytes, refusal_text, line_feed, empty_table, table_text, add_text, columns_text, file_text, report_text}
-use Rattle.report.specs.Answer.{print_outcome, print_leaves}
-use Rattle.numerals.specs.Steps.{Continued}
+use Rattle.report.specs.Text.{table_bytes, refusal_text, line_feed, empty_table, head_line, line_text, total_line, table_text, add_text, columns_text, file_text, report_text}
+use Rattle.report.specs.Answer.{print_outcome}
 
 -- what an accepted add to the empty table leaves
 pub columns_left : (kind : Kind) (ks vs : List ℕ) (g : ℕ) → AreBytes ks → add_outcome kind empty_table 0 ks vs table_bytes ≡ accepted g
@@ -52,19 +51,10 @@ pub file-refused : (f : List ℕ) (n : ℕ) → file_outcome f ≡ refused n →
 unfolding report_text file_text
 file-refused f n e = ap (λ o. file_text o f) e
 
-module _ {s s' w : List ℕ} {k r : ℕ} (p : Continued s 0 w k s' r) (fits : k ≤ length s') where
-  -- a text that starts at the front is all that is there
-  pub text_length : length w ≡ r
-  text_length = let h : r ≤ length s' = omega (arith, p.growth) in ap length (sym p.continues) ∙ length-take-le r s' h
-
-  module _ (out : List ℕ) where
-    pub does_not_fit : length out < r → (refused 16 ≡ print_outcome out w) × (out ≡ print_leaves out w)
-    does_not_fit h = rw (lt-ltb (length out) (length w) (omega (arith, text_length))) (refl, refl)
-
-    pub does_fit : (d : List ℕ) → r ≤ length out → d ≡ take r s' ++ drop r out → (accepted r ≡ print_outcome out w) × (d ≡ print_leaves out w)
-    does_fit d h e =
-        rw (le-ltb (length out) (length w) (omega (arith, text_length)))
-        (ap accepted (sym text_length), rw text_length (e ∙ ap (λ (l : List ℕ). l ++ drop r out) p.continues))
+-- the three parts of a table's text, printed one after the other
+pub table_parts : (s : List ℕ) (ts : List Section) → s ++ head_line ++ image line_text ts ++ total_line (table_totals ts) ≡ s ++ table_text ts
+unfolding table_text
+table_parts s ts = simp append_assoc
 
 -- an accepted printing fits
 pub printed_fits : (out w : List ℕ) (n : ℕ) → accepted n ≡ print_outcome out w → n ≤ length out

@@ -1,6 +1,6 @@
 -- The most bytes that each piece of the text takes.
 use Rattle.std.specs.Prelude.{ℕ, ◌+◌}
-use Rattle.numerals.specs.Steps.{longest_decimal, longest_u64, longest_integer, longest_bits}
+use Rattle.numerals.specs.Steps.{longest_decimal, longest_u64, longest_bits}
 
 -- "refused " and a number
 abbrev pub longest_refusal : ℕ
@@ -13,10 +13,6 @@ longest_key_and_count = longest_decimal + 1 + longest_decimal + 1
 -- a side, its minus sign included
 abbrev pub longest_side : ℕ
 longest_side = 2
-
--- a line with all fields
-abbrev pub longest_finished_line : ℕ
-longest_finished_line = longest_key_and_count + longest_bits + 1 + longest_integer + 1 + longest_side + 1
 
 -- the sum, and a refusal of any number in place of mill figure and side: no last fields need more room
 abbrev pub longest_refused_fields : ℕ

@@ -6,12 +6,14 @@ use Rattle.std.specs.Float.Ieee.{to_bits}
 use Rattle.codec.specs.Cells.{image}
 use Rattle.refusal.specs.Outcome.{Outcome, accepted, refused}
 use Rattle.columns.specs.declared.Kind.{Kind}
-use Rattle.patch.specs.File.{FileRows, file_outcome, key_column, value_column}
+use Rattle.patch.specs.declared.FileRows.{FileRows}
+use Rattle.patch.specs.File.{file_outcome, key_column, value_column}
 use Rattle.record.specs.Section.{Section}
-use Rattle.limbs.specs.declared.Side.{Side}
+use Rattle.std.specs.declared.cmp.Ordering.{Ordering}
 use Rattle.limbs.specs.Side.{side_number}
 use Rattle.finish.specs.declared.FinishedLine.{FinishedLine}
-use Rattle.finish.specs.Finish.{RoundedSum, sum_of, figure_of}
+use Rattle.finish.specs.declared.RoundedSum.{RoundedSum}
+use Rattle.finish.specs.Finish.{sum_of, figure_of}
 use Rattle.table.specs.Calls.{add_outcome, add_sections}
 use Rattle.totals.specs.declared.TableTotals.{TableTotals}
 use Rattle.totals.specs.Totals.{table_totals}
@@ -47,7 +49,7 @@ unfoldable pub refusal_text : ℕ → List ℕ
 refusal_text n = refused_word ++ decimal n
 
 -- the mill figure and the sum's side; a figure refused takes the place of both
-unfoldable pub figure_fields : Outcome ℤ → Side → List ℕ
+unfoldable pub figure_fields : Outcome ℤ → Ordering → List ℕ
 figure_fields (accepted z) d = integer z ++ space ++ integer (side_number d)
 figure_fields (refused n) d = refusal_text n
 

@@ -12,6 +12,7 @@ const NOT_A_NUMBER: u64 = 0x7FF8_0000_0000_0000;
 const INFINITE: u64 = 0x7FF0_0000_0000_0000;
 
 // The exponent field of a short float's bits.
+// Kept beside level::exponent_field: one function of both widths would take shift and mask as parameters, and be no plainer.
 fn single_field(bits: u32) -> u32
     ensures { result ≡ single_field bits }
 {

@@ -1,2 +1,3 @@
 -- Laws of the tests of soundness.
 pub mod Tests
+pub mod Tables

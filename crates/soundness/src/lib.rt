@@ -8,20 +8,12 @@ ghost use Rattle.record.specs.Layout.{records};
 ghost use Rattle.record.specs.Keys.{record_keys, rising};
 ghost use Rattle.record.specs.Sound.{sound_total, is_zero, sound_record, sound_records, sound};
 
+mod sound;
+
+use codec::Field;
 use level::{CARRY_BASE, HIGHEST_POWER, LEVEL_BOUND, SplitTotal};
 use record::Record;
-
-fn both(a: bool, b: bool) -> bool
-    ensures { result ≡ a && b }
-{
-    if a { b } else { false }
-}
-
-pub fn either(a: bool, b: bool) -> bool
-    ensures { result ≡ a || b }
-{
-    if a { true } else { b }
-}
+pub use sound::{SoundRecord, SoundTable};
 
 // Whether k * 2^50 + s is at most count * 2^39: neither side need fit 64 bits. 2^50 is 2,048 times 2^39.
 fn at_most(k: u64, s: u64, count: u32) -> bool
@@ -38,6 +30,7 @@ fn at_most(k: u64, s: u64, count: u32) -> bool
     s <= ((count % 2048) as u64) * LEVEL_BOUND
 }
 
+// Whether a total is split as it is kept, and no larger than so many rows allow.
 pub fn total_sound(x: SplitTotal, count: u32) -> bool
     ensures { result ≡ sound_total count x }
 {
@@ -52,23 +45,21 @@ pub fn total_sound(x: SplitTotal, count: u32) -> bool
     false
 }
 
+// Whether a level holds nothing.
 fn is_zero(x: SplitTotal) -> bool
     ensures { result ≡ is_zero x }
 {
-    both(x.residue == 0, x.carry == 0)
+    (x.residue == 0) & (x.carry == 0)
 }
 
+// Whether a record is sound by itself.
 fn record_sound(r: Record) -> bool
     ensures { result ≡ sound_record r }
 {
     let n = r.count;
-    let head = both(both(1 <= n, r.top <= 52), r.finest <= HIGHEST_POWER);
-    let a = both(
-        both(both(head, total_sound(r.high, n)), total_sound(r.middle, n)),
-        total_sound(r.low, n),
-    );
-    let b = both(a, either(1 <= r.top, is_zero(r.middle)));
-    both(b, either(2 <= r.top, is_zero(r.low)))
+    let head = (1 <= n) & (r.top <= 52) & (r.finest <= HIGHEST_POWER);
+    let a = head & total_sound(r.high, n) & total_sound(r.middle, n) & total_sound(r.low, n);
+    a & ((1 <= r.top) | is_zero(r.middle)) & ((2 <= r.top) | is_zero(r.low))
 }
 
 // Whether the keys rise and each record is sound by itself.
@@ -76,16 +67,14 @@ fn records_sound(t: &[u8], g: usize) -> bool
     requires { g * 64 ≤ length t.now }
     ensures { result ≡ rising (record_keys (records t.now g)) && sound_records (records t.now g) }
 {
-    let mut i = 0;
-    while i < g {
+    for i in 0..g {
         let r = record::get(t, i);
-        let ok = record_sound(r);
-        if !ok {
+        if !record_sound(r) {
             return false;
         }
-        i += 1;
-        if i < g {
-            if codec::u32_at(t, i * 64) <= r.key {
+        let next = i + 1;
+        if next < g {
+            if u32::read(t, next * 64) <= r.key {
                 return false;
             }
         }

@@ -2,4 +2,3 @@
 pub mod Combine
 pub mod Calls
 pub mod Steps
-pub mod Answer

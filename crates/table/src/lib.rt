@@ -1,62 +1,46 @@
 // What the calls on tables share: the tests of two columns, and sections combined by value.
 #![tactic(auto)]
 
-ghost use Rattle.std.specs.Prelude.{◌≡◌, ◌+◌, ◌≤◌, ◌<◌, max, min, T, pos};
+ghost use Rattle.std.specs.Prelude.{◌≡◌, ◌+◌, ◌≤◌, ◌<◌, pos};
 ghost use Rattle.level.specs.Level.{below};
 ghost use Rattle.level.specs.Carry.{split_of};
-ghost use Rattle.record.specs.Sound.{sound_record};
 ghost use Rattle.record.specs.Section.{meaning, record_of};
 ghost use Rattle.table.specs.Combine.{of_row, both_at, combine};
 ghost use Rattle.table.specs.Calls.{most_rows, column_outcome};
-ghost use Rattle.table.specs.Answer.{check_answer};
+ghost use Rattle.refusal.specs.Answer.{outcome_of};
 ghost use Rattle.table.specs.Steps.{split_in};
 
-use columns::Kind;
+use columns::Columns;
 use level::SplitTotal;
 use record::Record;
 use refusal::Refusal;
+use soundness::SoundRecord;
 
 // The largest row count that a record has room for.
 pub const MOST_ROWS: u64 = 4294967295;
-
-// What an add, a removal, a merge or a load answers: the table's new group count, or why the call is refused.
-#[derive(Clone, Copy)]
-pub enum TableAnswer {
-    Groups(usize),
-    Refused(Refusal),
-}
-
-// Whether two columns can be brought to a table or taken out of it, or why not.
-#[derive(Clone, Copy)]
-pub enum ColumnCheck {
-    Good,
-    Refused(Refusal),
-}
 
 // The tests that every call makes that takes columns, in document 01's order: 7 to 10.
 pub fn check_columns(
     table: &[u8],
     g: usize,
-    keys: &[u8],
-    values: &[u8],
-    kind: Kind,
+    columns: Columns<'_>,
     work_len: usize,
-) -> ColumnCheck
-    ensures { check_answer result ≡ column_outcome kind table.now g keys.now values.now work_len }
+) -> Result<(), Refusal>
+    ensures { outcome_of result ≡ column_outcome columns.entry.kind table.now g columns.entry.keys.now columns.entry.values.now work_len }
 {
     if !soundness::is_sound(table, g) {
-        return ColumnCheck::Refused(Refusal::TableNotSound);
+        return Err(Refusal::TableNotSound);
     }
     if work_len < table.len() {
-        return ColumnCheck::Refused(Refusal::WorkTooShort);
+        return Err(Refusal::WorkTooShort);
     }
-    if !columns::columns_fit(keys, values, kind) {
-        return ColumnCheck::Refused(Refusal::ColumnLengths);
+    if !columns.fit() {
+        return Err(Refusal::ColumnLengths);
     }
-    if columns::any_not_finite(values, kind) {
-        return ColumnCheck::Refused(Refusal::RowNotFinite);
+    if columns.any_not_finite() {
+        return Err(Refusal::RowNotFinite);
     }
-    ColumnCheck::Good
+    Ok(())
 }
 
 // A level that holds nothing.
@@ -75,77 +59,59 @@ pub fn split_in(r: Record, j: u32) -> SplitTotal
     ensures { result ≡ split_in r j }
 {
     if j == r.top {
-        let high = r.high;
-        return high;
+        return r.high;
     }
     if j + 1 == r.top {
-        let middle = r.middle;
-        return middle;
+        return r.middle;
     }
     if j + 2 == r.top {
-        let low = r.low;
-        return low;
+        return r.low;
     }
     nothing()
 }
 
 // What two records hold together d levels below level t; below level 0 there is nothing.
-fn total_below(a: Record, b: Record, t: u32, d: u32) -> SplitTotal
-    requires t_bound { t ≤ 52 }
-    requires t { T (sound_record a) }
-    requires t_2 { T (sound_record b) }
-    ensures { result ≡ split_of (below (both_at (meaning a) (meaning b)) t d) }
+fn total_below(a: SoundRecord, b: SoundRecord, t: u32, d: u32) -> SplitTotal
+    requires { t ≤ 52 }
+    ensures { result ≡ split_of (below (both_at (meaning a.raw) (meaning b.raw)) t d) }
 {
     if t < d {
         return nothing();
     }
-    level::add_totals(split_in(a, t - d), split_in(b, t - d))
-}
-
-fn larger(x: u32, y: u32) -> u32
-    ensures { result ≡ max x y }
-{
-    if x < y { y } else { x }
-}
-
-fn smaller(x: u32, y: u32) -> u32
-    ensures { result ≡ min x y }
-{
-    if x < y { x } else { y }
+    level::add_totals(split_in(a.raw, t - d), split_in(b.raw, t - d))
 }
 
 // Two records of one section and one top as one: their levels stand side by side.
-pub fn combined_same_top(a: Record, b: Record) -> Record
-    requires t { T (sound_record a) }
-    requires t_2 { T (sound_record b) }
-    requires top_value { (a.top ≡ b.top) × (a.count + b.count ≤ most_rows) }
-    ensures { result ≡ record_of (combine (meaning a) (meaning b)) }
+// Kept: that one count has room for both stays a clause of the three ways to combine, since it is a fact of the pair.
+pub fn combined_same_top(a: SoundRecord, b: SoundRecord) -> Record
+    requires { (a.raw.top ≡ b.raw.top) × (a.raw.count + b.raw.count ≤ most_rows) }
+    ensures { result ≡ record_of (combine (meaning a.raw) (meaning b.raw)) }
 {
+    let x = a.raw;
+    let y = b.raw;
     Record {
-        key: a.key,
-        count: a.count + b.count,
-        top: a.top,
-        finest: smaller(a.finest, b.finest),
-        high: level::add_totals(a.high, b.high),
-        middle: level::add_totals(a.middle, b.middle),
-        low: level::add_totals(a.low, b.low),
+        key: x.key,
+        count: x.count + y.count,
+        top: x.top,
+        finest: x.finest.min(y.finest),
+        high: level::add_totals(x.high, y.high),
+        middle: level::add_totals(x.middle, y.middle),
+        low: level::add_totals(x.low, y.low),
     }
 }
 
 // Two records of one section as one, level by level.
-pub fn combined_by_level(a: Record, b: Record) -> Record
-    requires t { T (sound_record a) }
-    requires t_2 { T (sound_record b) }
-    requires count_bound { a.count + b.count ≤ most_rows }
-    ensures { result ≡ record_of (combine (meaning a) (meaning b)) }
+pub fn combined_by_level(a: SoundRecord, b: SoundRecord) -> Record
+    requires { a.raw.count + b.raw.count ≤ most_rows }
+    ensures { result ≡ record_of (combine (meaning a.raw) (meaning b.raw)) }
 {
-    let t = larger(a.top, b.top);
-    let count = a.count + b.count;
+    let t = a.raw.top.max(b.raw.top);
+    let count = a.raw.count + b.raw.count;
     Record {
-        key: a.key,
+        key: a.raw.key,
         count,
         top: t,
-        finest: smaller(a.finest, b.finest),
+        finest: a.raw.finest.min(b.raw.finest),
         high: total_below(a, b, t, 0),
         middle: total_below(a, b, t, 1),
         low: total_below(a, b, t, 2),
@@ -153,13 +119,11 @@ pub fn combined_by_level(a: Record, b: Record) -> Record
 }
 
 // Two records of one section as one.
-pub fn combined(a: Record, b: Record) -> Record
-    requires t { T (sound_record a) }
-    requires t_2 { T (sound_record b) }
-    requires count_bound { a.count + b.count ≤ most_rows }
-    ensures { result ≡ record_of (combine (meaning a) (meaning b)) }
+pub fn combined(a: SoundRecord, b: SoundRecord) -> Record
+    requires { a.raw.count + b.raw.count ≤ most_rows }
+    ensures { result ≡ record_of (combine (meaning a.raw) (meaning b.raw)) }
 {
-    if a.top == b.top {
+    if a.raw.top == b.raw.top {
         return combined_same_top(a, b);
     }
     // Copies of their own, so that records of one top stay in registers and only these are stored for the call.
@@ -169,11 +133,11 @@ pub fn combined(a: Record, b: Record) -> Record
 }
 
 // The record of one row.
-pub fn row_record(key: u32, bits: u64) -> Record
-    ensures { result ≡ record_of (of_row (record { key = key; bits = bits })) }
+pub fn row_record(key: u32, bits: u64) -> SoundRecord
+    ensures { result.raw ≡ record_of (of_row (record { key = key; bits = bits })) }
 {
     let c = level::contributions_of(bits);
-    Record {
+    let raw = Record {
         key,
         count: 1,
         top: c.top,
@@ -181,5 +145,6 @@ pub fn row_record(key: u32, bits: u64) -> Record
         high: level::split(c.high),
         middle: level::split(c.middle),
         low: level::split(c.low),
-    }
+    };
+    SoundRecord { raw }
 }

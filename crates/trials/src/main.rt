@@ -3,6 +3,8 @@
 
 ghost use Rattle.std.specs.Prelude.{◌<◌};
 
+use codec::Field;
+
 const SIGN: u64 = 0x8000000000000000;
 
 // The next number of the generator (xorshift).
@@ -31,53 +33,32 @@ fn row(x: u64, kind: u64) -> u64 {
     }
 }
 
-// A key and a value put in place, where the column has room.
-fn put_key(keys: &mut [u8], i: usize, key: u32)
-    requires { i < 65536 }
-{
-    if i * 4 + 4 <= keys.len() {
-        codec::put_u32(keys, i * 4, key);
-    }
-}
-
-fn put_value(values: &mut [u8], i: usize, bits: u64)
-    requires { i < 65536 }
-{
-    if i * 8 + 8 <= values.len() {
-        codec::put_u64(values, i * 8, bits);
-    }
-}
-
 // n random rows in the columns; some take back the row before them. The generator's next state.
-fn fill(keys: &mut [u8], values: &mut [u8], n: usize, state: u64, kind: u64) -> u64
-    requires { n < 65536 }
-{
+fn fill(keys: &mut [u8], values: &mut [u8], n: usize, state: u64, kind: u64) -> u64 {
     let mut x = state;
     let mut bits: u64 = 0;
-    let mut i = 0;
-    while i < n {
+    let cells = keys.as_chunks_mut::<4>().0.iter_mut();
+    for (key, value) in cells.zip(values.as_chunks_mut::<8>().0).take(n) {
         x = next(x);
-        if x & 48 == 0 {
-            bits = bits ^ SIGN;
+        bits = if x & 48 == 0 {
+            bits ^ SIGN
         } else {
-            bits = row(x, kind);
-        }
-        put_key(keys, i, ((x >> 40) % 16) as u32);
-        put_value(values, i, bits);
-        i += 1;
+            row(x, kind)
+        };
+        *key = (((x >> 40) % 16) as u32).to_le_bytes();
+        *value = bits.to_le_bytes();
     }
     x
 }
 
-// n rows of the double 1 in section 0.
-fn fill_ones(keys: &mut [u8], values: &mut [u8], n: usize)
-    requires { n < 65536 }
-{
-    let mut i = 0;
-    while i < n {
-        put_key(keys, i, 0);
-        put_value(values, i, 0x3FF0000000000000);
-        i += 1;
+// Rows of the double 1 all over the columns, each a section further by step.
+fn fill_ones(keys: &mut [u8], values: &mut [u8], step: u32) {
+    let mut section: u32 = 0;
+    let cells = keys.as_chunks_mut::<4>().0.iter_mut();
+    for (key, value) in cells.zip(values.as_chunks_mut::<8>().0) {
+        *key = section.to_le_bytes();
+        *value = 0x3FF0000000000000u64.to_le_bytes();
+        section = section.wrapping_add(step);
     }
 }
 
@@ -90,21 +71,11 @@ fn end_line(rt: &HostRuntime) {
     let _ = println!(rt);
 }
 
-// The two's complement of a number.
-fn word(z: i64) -> u64 {
-    let mut b = [0u8; 8];
-    codec::put_i64(&mut b, 0, z);
-    codec::u64_at(&b, 0)
-}
-
 // A mixed number of all words of a buffer.
 fn digest(t: &[u8]) -> u64 {
-    let n = t.len() / 8;
     let mut h: u64 = 1;
-    let mut i = 0;
-    while i < n {
-        h = std::num::wrapping_add_u64(next(h), codec::u64_at(t, i * 8));
-        i += 1;
+    for word in t.as_chunks::<8>().0 {
+        h = next(h).wrapping_add(u64::from_le_bytes(*word));
     }
     h
 }
@@ -116,7 +87,7 @@ fn part(s: &[u8], n: usize) -> &[u8] {
 
 // The group count after a call that answered r.
 fn groups_after(r: i64, g: u64) -> u64 {
-    if r < 0 { g } else { word(r) }
+    u64::try_from(r).unwrap_or(g)
 }
 
 // n random rows added to a table; now and then with a wrong group count, a short work buffer, or a column too short.
@@ -127,34 +98,20 @@ fn add_random(t: &mut [u8], g: u64, n: usize, x: u64, kind: u64) -> i64
     let mut values = [0u8; 256];
     fill(&mut keys, &mut values, n, x ^ 0x9E3779B97F4A7C15, kind);
     let mut work = [7u8; 640];
-    let mut short = [7u8; 256];
-    match (x >> 20) & 15 {
-        0 => exports::girth_add(
-            t,
-            std::num::wrapping_add_u64(g, 1),
-            part(&keys, n * 4),
-            part(&values, n * 8),
-            8,
-            &mut work,
-        ),
-        1 => exports::girth_add(
-            t,
-            g,
-            part(&keys, n * 4),
-            part(&values, n * 8),
-            8,
-            &mut short,
-        ),
-        2 => exports::girth_add(
-            t,
-            g,
-            part(&keys, n * 4),
-            part(&values, n * 8 + 4),
-            8,
-            &mut work,
-        ),
-        _ => exports::girth_add(t, g, part(&keys, n * 4), part(&values, n * 8), 8, &mut work),
-    }
+    let (groups, value_bytes, room) = match (x >> 20) & 15 {
+        0 => (g.wrapping_add(1), n * 8, 640),
+        1 => (g, n * 8, 256),
+        2 => (g, n * 8 + 4, 640),
+        _ => (g, n * 8, 640),
+    };
+    exports::girth_add(
+        t,
+        groups,
+        part(&keys, n * 4),
+        part(&values, value_bytes),
+        8,
+        &mut work[..room],
+    )
 }
 
 // The first n rows of such an add, or all of them, taken out of a table.
@@ -179,7 +136,7 @@ fn call(t: &mut [u8], g: u64, other: &[u8], h: u64, x: u64, kind: u64) -> i64 {
 // The same, with its answer said; the group count after it.
 fn step(rt: &HostRuntime, t: &mut [u8], g: u64, other: &[u8], h: u64, x: u64, kind: u64) -> u64 {
     let r = call(t, g, other, h, x, kind);
-    print(rt, word(r));
+    print(rt, r.cast_unsigned());
     groups_after(r, g)
 }
 
@@ -194,15 +151,15 @@ fn print_section(rt: &HostRuntime, t: &[u8], g: u64, key: u32) {
         return;
     }
     print(rt, key as u64);
-    print(rt, word(r));
+    print(rt, r.cast_unsigned());
     print(rt, count);
-    print(rt, word(side));
+    print(rt, side.cast_unsigned());
     exports::girth_sum(t, g, key, &mut bits, &mut side);
     print(rt, bits);
-    print(rt, word(side));
+    print(rt, side.cast_unsigned());
     exports::girth_figure(t, g, key, &mut figure);
-    print(rt, word(figure));
-    print(rt, word(exports::girth_exact(t, g, key)));
+    print(rt, figure.cast_unsigned());
+    print(rt, exports::girth_exact(t, g, key).cast_unsigned());
     end_line(rt);
 }
 
@@ -211,14 +168,14 @@ fn print_totals(rt: &HostRuntime, t: &[u8], g: u64) {
     let mut sections: u64 = 9;
     let mut rows: u64 = 9;
     let r = exports::girth_totals(t, g, &mut sections, &mut rows);
-    print(rt, word(r));
+    print(rt, r.cast_unsigned());
     print(rt, sections);
     print(rt, rows);
 }
 
 // What a load of a file into a table says, and what it leaves there.
 fn print_load(rt: &HostRuntime, file: &[u8], t: &mut [u8]) {
-    print(rt, word(exports::girth_load(file, t)));
+    print(rt, exports::girth_load(file, t).cast_unsigned());
     print(rt, digest(t));
 }
 
@@ -227,9 +184,9 @@ fn print_save(rt: &HostRuntime, t: &[u8], g: u64) {
     let mut out = [0xC3u8; 400];
     let mut other = [0x5Au8; 320];
     let r = exports::girth_save(t, g, &mut out);
-    print(rt, word(r));
+    print(rt, r.cast_unsigned());
     print(rt, digest(&out));
-    print_load(rt, part(&out, word(r) as usize), &mut other);
+    print_load(rt, part(&out, r.cast_unsigned() as usize), &mut other);
 }
 
 // Group count and digest of a table, its totals, those for a record too many, how it is saved and loaded, then its sections.
@@ -237,13 +194,11 @@ fn print_table(rt: &HostRuntime, t: &[u8], g: u64) {
     print(rt, g);
     print(rt, digest(t));
     print_totals(rt, t, g);
-    print_totals(rt, t, std::num::wrapping_add_u64(g, 1));
+    print_totals(rt, t, g.wrapping_add(1));
     print_save(rt, t, g);
     end_line(rt);
-    let mut key: u32 = 0;
-    while key < 17 {
+    for key in 0..17 {
         print_section(rt, t, g, key);
-        key += 1;
     }
 }
 
@@ -251,7 +206,7 @@ fn print_table(rt: &HostRuntime, t: &[u8], g: u64) {
 fn print_removal(rt: &HostRuntime, t: &mut [u8], g: u64, n: usize, x: u64, kind: u64)
     requires { n < 32 }
 {
-    print(rt, word(remove_random(t, g, n, x, kind)));
+    print(rt, remove_random(t, g, n, x, kind).cast_unsigned());
     print(rt, digest(t));
     end_line(rt);
 }
@@ -261,13 +216,11 @@ fn run_calls(rt: &HostRuntime, a: &mut [u8], b: &mut [u8], state: u64, kind: u64
     let mut g: u64 = 0;
     let mut h: u64 = 0;
     let mut x = state;
-    let mut i: u32 = 0;
-    while i < 6 {
+    for _ in 0..6 {
         x = next(x);
         g = step(rt, a, g, b, h, x, kind);
         x = next(x);
         h = step(rt, b, h, a, g, x, kind);
-        i += 1;
     }
     end_line(rt);
     print_table(rt, a, g);
@@ -287,15 +240,13 @@ fn run_set(rt: &HostRuntime, state: u64, kind: u64) {
 fn run_merges(rt: &HostRuntime, a: &mut [u8], b: &mut [u8]) {
     let mut g = groups_after(add_random(a, 0, 9, 0x123456789, 4), 0);
     let mut h: u64 = 0;
-    let mut i: u32 = 0;
-    while i < 24 {
+    for _ in 0..24 {
         let r = exports::girth_merge(b, h, a, g);
-        print(rt, word(r));
+        print(rt, r.cast_unsigned());
         h = groups_after(r, h);
         let q = exports::girth_merge(a, g, b, h);
-        print(rt, word(q));
+        print(rt, q.cast_unsigned());
         g = groups_after(q, g);
-        i += 1;
     }
     end_line(rt);
     print_table(rt, a, g);
@@ -310,12 +261,8 @@ fn run_doubling(rt: &HostRuntime) {
 
 // The first 64 bytes of a table, as words.
 fn print_record(rt: &HostRuntime, t: &[u8]) {
-    let mut i: usize = 0;
-    while i < 8 {
-        if i * 8 + 8 <= t.len() {
-            print(rt, codec::u64_at(t, i * 8));
-        }
-        i += 1;
+    for word in t.as_chunks::<8>().0.iter().take(8) {
+        print(rt, u64::from_le_bytes(*word));
     }
     end_line(rt);
 }
@@ -323,10 +270,8 @@ fn print_record(rt: &HostRuntime, t: &[u8]) {
 // 15 adds of the same columns, then one of their first row.
 fn add_often(rt: &HostRuntime, t: &mut [u8], work: &mut [u8], keys: &[u8], values: &[u8]) {
     let mut g: u64 = 0;
-    let mut i: u32 = 0;
-    while i < 15 {
+    for _ in 0..15 {
         g = groups_after(exports::girth_add(t, g, keys, values, 8, work), g);
-        i += 1;
     }
     print_record(rt, t);
     exports::girth_add(t, g, part(keys, 4), part(values, 8), 8, work);
@@ -337,7 +282,7 @@ fn add_often(rt: &HostRuntime, t: &mut [u8], work: &mut [u8], keys: &[u8], value
 fn run_ones(rt: &HostRuntime) {
     let mut keys = [0u8; 17476];
     let mut values = [0u8; 34952];
-    fill_ones(&mut keys, &mut values, 4369);
+    fill_ones(&mut keys, &mut values, 0);
     let mut t = [0u8; 64];
     let mut work = [0u8; 64];
     add_often(rt, &mut t, &mut work, &keys, &values);
@@ -349,7 +294,7 @@ fn print_file(rt: &HostRuntime, file: &[u8]) {
     let mut values: u64 = 9;
     let mut width: u64 = 9;
     let n = exports::girth_read(file, &mut keys, &mut values, &mut width);
-    print(rt, word(n));
+    print(rt, n.cast_unsigned());
     print(rt, keys);
     print(rt, values);
     print(rt, width);
@@ -368,10 +313,10 @@ fn patch_mark(x: u64) -> u32 {
 // A file of 64 bytes whose trailer is near a good one; the mark is of either kind, or of none.
 fn run_file(rt: &HostRuntime, x: u64) {
     let mut file = [0u8; 64];
-    codec::put_u32(&mut file, 48, (x % 4) as u32);
-    codec::put_u32(&mut file, 52, (14 + (x >> 8) % 64) as u32);
-    codec::put_u32(&mut file, 56, (14 + (x >> 16) % 64) as u32);
-    codec::put_u32(&mut file, 60, patch_mark(x >> 24));
+    ((x % 4) as u32).write(&mut file, 48);
+    ((14 + (x >> 8) % 64) as u32).write(&mut file, 52);
+    ((14 + (x >> 16) % 64) as u32).write(&mut file, 56);
+    patch_mark(x >> 24).write(&mut file, 60);
     print_file(rt, &file);
 }
 
@@ -381,11 +326,9 @@ fn run_files(rt: &HostRuntime) {
     print_file(rt, part(&long, 15));
     print_file(rt, part(&long, 16));
     let mut x: u64 = 0xDEADBEEFCAFE;
-    let mut i: u32 = 0;
-    while i < 400 {
+    for _ in 0..400 {
         x = next(x);
         run_file(rt, x);
-        i += 1;
     }
 }
 
@@ -394,13 +337,13 @@ fn run_saved_file(rt: &HostRuntime, x: u64) {
     let mut file = [0u8; 80];
     let mut t = [0x5Au8; 72];
     let mut short = [0x5Au8; 63];
-    codec::put_u32(&mut file, 0, (x >> 48) as u32);
-    codec::put_u32(&mut file, 4, ((x % 8 + 6) / 7) as u32);
-    codec::put_u32(&mut file, 12, (2091 + (x >> 44) % 9) as u32);
-    codec::put_u32(&mut file, 64, (1 + ((x >> 8) % 8) / 7) as u32);
-    codec::put_u32(&mut file, 68, (80 + ((x >> 16) % 8) / 7) as u32);
-    codec::put_u32(&mut file, 72, (((x >> 24) % 8) / 7) as u32);
-    codec::put_u32(&mut file, 76, (0x4C424154 - ((x >> 32) % 8) / 7) as u32);
+    ((x >> 48) as u32).write(&mut file, 0);
+    (((x % 8 + 6) / 7) as u32).write(&mut file, 4);
+    ((2091 + (x >> 44) % 9) as u32).write(&mut file, 12);
+    ((1 + ((x >> 8) % 8) / 7) as u32).write(&mut file, 64);
+    ((80 + ((x >> 16) % 8) / 7) as u32).write(&mut file, 68);
+    ((((x >> 24) % 8) / 7) as u32).write(&mut file, 72);
+    ((0x4C424154 - ((x >> 32) % 8) / 7) as u32).write(&mut file, 76);
     if (x >> 40) % 4 == 0 {
         print_load(rt, &file, &mut short);
     } else {
@@ -411,46 +354,32 @@ fn run_saved_file(rt: &HostRuntime, x: u64) {
 
 fn run_saved_files(rt: &HostRuntime) {
     let mut x: u64 = 0xBADC0FFEE;
-    let mut i: u32 = 0;
-    while i < 100 {
+    for _ in 0..100 {
         x = next(x);
         run_saved_file(rt, x);
-        i += 1;
-    }
-}
-
-// n rows of the double 1, each in a section of its own.
-fn fill_sections(keys: &mut [u8], values: &mut [u8], n: usize)
-    requires { n < 65536 }
-{
-    let mut i = 0;
-    while i < n {
-        put_key(keys, i, i as u32);
-        put_value(values, i, 0x3FF0000000000000);
-        i += 1;
     }
 }
 
 // A table of 1,024 groups, which cannot be saved, and its first 1,023, which can: the file, and the table that it is loaded into.
 fn save_full(rt: &HostRuntime, t: &[u8], out: &mut [u8], other: &mut [u8]) {
-    print(rt, word(exports::girth_save(t, 1024, out)));
+    print(rt, exports::girth_save(t, 1024, out).cast_unsigned());
     print(rt, digest(out));
     let r = exports::girth_save(t, 1023, out);
-    print(rt, word(r));
+    print(rt, r.cast_unsigned());
     print(rt, digest(out));
-    print_load(rt, part(out, word(r) as usize), other);
+    print_load(rt, part(out, r.cast_unsigned() as usize), other);
     end_line(rt);
 }
 
 fn run_full(rt: &HostRuntime) {
     let mut keys = [0u8; 4096];
     let mut values = [0u8; 8192];
-    fill_sections(&mut keys, &mut values, 1024);
+    fill_ones(&mut keys, &mut values, 1);
     let mut t = [0u8; 65536];
     let mut work = [0u8; 65536];
     print(
         rt,
-        word(exports::girth_add(&mut t, 0, &keys, &values, 8, &mut work)),
+        exports::girth_add(&mut t, 0, &keys, &values, 8, &mut work).cast_unsigned(),
     );
     let mut out = [0xC3u8; 65560];
     save_full(rt, &t, &mut out, &mut work);
@@ -463,10 +392,8 @@ fn main(rt: HostRuntime) {
     run_saved_files(&rt);
     run_full(&rt);
     let mut x: u64 = 88172645463325252;
-    let mut i: u64 = 0;
-    while i < 320 {
+    for i in 0..320u64 {
         x = next(x);
         run_set(&rt, x, (x & 0xFFFFFFFFFFFFFFF0) | (i & 15));
-        i += 1;
     }
 }

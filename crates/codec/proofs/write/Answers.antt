@@ -1,40 +1,36 @@
--- `codec::write`: what is left to store, stored, gives what the function is to leave.
 use Prim.Native.Nat.{ℕ, suc, ◌+◌, ◌-◌, ◌/◌, ◌%◌, ◌≤◌, ◌<◌}
-use native.Mathlib.Omega.{arith}
-use mathlib.Core.Path.{◌≡◌, refl, ◌∙◌}
+use mathlib.Core.Path.{◌≡◌, refl, sym, ◌∙◌}
 use mathlib.Core.List.{List}
-use native.Mathlib.Nat.{sub-zero, sub_self, add-zero}
-use lib.ListN.{length, set, length-set}
+use native.Mathlib.Nat.{sub-zero, add-zero}
+use native.Mathlib.Omega.{arith}
+use lib.ListN.{set}
 use lib.Seq.{sets}
 use Rattle.codec.specs.Bytes.{bytes}
 use Rattle.codec.proofs.write.Goals as goal
 
-iteration : (s₀ : List ℕ) (at w x : ℕ) (s : List ℕ) (y k : ℕ) → ((k ≤ w) × (length s ≡ length s₀) × (sets s (at + k) (bytes (w - k) y) ≡ sets s₀ at (bytes w x))) → k < w
-    → (((k + 1) ≤ w) × (length (set s (at + k) (y % 256)) ≡ length s₀) × (sets (set s (at + k) (y % 256)) (at + (k + 1)) (bytes (w - (k + 1)) (y / 256)) ≡ sets s₀ at (bytes w x)))
+-- one byte stored, the others of the number are left
+one_more : (s : List ℕ) (at w y k : ℕ) → k < w → sets s (at + k) (bytes (w - k) y) ≡ sets (set s (at + k) (y % 256)) (at + (k + 1)) (bytes (w - (k + 1)) (y / 256))
 unfolding bytes
-iteration s₀ at w x s y k inv h =
+one_more s at w y k h =
     let n : w - k ≡ suc (w - (k + 1)) = omega arith in
     let e : at + (k + 1) ≡ suc (at + k) = omega arith in
-    (omega arith, length-set s (at + k) (y % 256) ∙ inv.1, rw e (rw n at inv.2))
+    rw (e, n) refl
 
-done : (s₀ : List ℕ) (at w x : ℕ) (s : List ℕ) (y k : ℕ) → ((k ≤ w) × (length s ≡ length s₀) × (sets s (at + k) (bytes (w - k) y) ≡ sets s₀ at (bytes w x))) → k ≡ w → s ≡ sets s₀ at (bytes w x)
+none_left : (s : List ℕ) (at w y k : ℕ) → w ≤ k → sets s (at + k) (bytes (w - k) y) ≡ s
 unfolding bytes
-done s₀ at w x s y k inv e = simp (e, sub_self) at inv.2
+none_left s at w y k h =
+    let n : w - k ≡ 0 = omega arith in
+    rw n refl
 
 pub loop-k-init : goal.loop-k-init
-loop-k-init c = simp (sub-zero, add-zero) (omega arith, refl, refl)
+loop-k-init c = rw (sub-zero, add-zero)
 
 pub loop-k-preserved : goal.loop-k-preserved
 loop-k-preserved c =
-    let a = c.args in
     let l = c.loop-k in
-    iteration a.s.now a.at a.w a.x l.s l.y l.k l.invariant c.loop-k-test.true
-
-pub shape_of-s : goal.shape_of-s
-shape_of-s c = c.loop-k.invariant.1
+    sym (one_more l.s c.args.at c.args.w l.y l.k c.loop-k-test.true) ∙ l.invariant
 
 pub returns : goal.returns
 returns c =
-    let a = c.args in
     let l = c.loop-k in
-    done a.s.now a.at a.w a.x l.s l.y l.k l.invariant (omega arith)
+    sym (none_left l.s c.args.at c.args.w l.y l.k c.loop-k-test.false) ∙ l.invariant

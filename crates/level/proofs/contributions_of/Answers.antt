@@ -1,6 +1,6 @@
 -- `contributions_of` gives a row's contributions from its top down: the significand goes down the levels in units of 2^d.
-use mathlib.Core.Path.{◌≡◌, sym, ◌∙◌}
-use mathlib.Core.Bool.{Bool}
+use mathlib.Core.Path.{◌≡◌, refl, sym, ◌∙◌}
+use mathlib.Core.Bool.{Bool, true, false, not, beq}
 use Prim.Native.Nat.{ℕ, ◌*◌, ◌^◌, ◌≤◌}
 use native.Mathlib.Omega.{arith}
 use mir.Syntax.{w64}
@@ -29,6 +29,13 @@ three b x d n r m l g o s p q ex ed eg ec el es eq =
   where
     row_at : (k : ℕ) → scaled (2 ^ d) g x k ≡ below (contribution b) (top b) k
     row_at k = rw (ex, ed, eg) (sym (row_scaled b k))
+
+-- a sign is flipped just where the two differ
+flips : (g b : Bool) → not (beq g b) ≡ flipped_if g b
+flips true true = refl
+flips true false = refl
+flips false true = refl
+flips false false = refl
 
 pub cut_at-first-requires : goal.cut_at-first-requires
 cut_at-first-requires c = let b = c.args.bits in omega (arith, significand-lt b, top-place b)
@@ -62,13 +69,11 @@ pub returns : goal.returns
 returns c =
     let f = c.cut_at-first in
     let l = c.lower_two-next in
-    let s = c.flipped_if-sign1 in
-    let q = c.flipped_if-sign2 in
     let x = c.significand in
     let g = c.is_negative-sign in
     let d = c.shift-d in
     let t = three c.args.bits x.result d.result f.result.units f.result.rest l.result.middle l.result.low
-    g.result f.result.rounded_up s.result l.result.rounded_up q.result x.ensures d.ensures g.ensures f.ensures l.ensures s.ensures q.ensures in
+    g.result f.result.rounded_up _ l.result.rounded_up _ x.ensures d.ensures g.ensures f.ensures l.ensures (flips g.result f.result.rounded_up) (flips _ l.result.rounded_up) in
     let high = to_z-of_z w64 _ (record { sfits = c.with_sign.type_inv }) ∙ c.with_sign.ensures ∙ t.0 in
     let middle = to_z-of_z w64 _ (record { sfits = c.with_sign-2.type_inv }) ∙ c.with_sign-2.ensures ∙ t.1 in
     let low = to_z-of_z w64 _ (record { sfits = c.with_sign-3.type_inv }) ∙ c.with_sign-3.ensures ∙ t.2 in

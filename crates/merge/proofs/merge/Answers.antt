@@ -1,25 +1,14 @@
 -- `merge` writes where the outcome is accepted.
-use mathlib.Core.Path.{sym, ap, ◌∙◌}
 use native.Mathlib.Omega.{arith}
-use Rattle.table.specs.Answer.{table_answer}
-use Rattle.merge.proofs.Outcome.{accepted_says, leaves-written, leaves-same}
+use Rattle.merge.proofs.Outcome.{accepted_says}
 use Rattle.merge.proofs.merge.Goals as goal
+
+pub invariant_of-second_table : goal.invariant_of-second_table
+invariant_of-second_table c =
+    let w = accepted_says c.args.first.now c.args.g1 c.args.second.now c.args.g2 c.in_ok-united.united c.in_ok-united.ensures in
+    record { sound = w.sound₂; bytes_fit = λ i. omega (arith, c.type_inv.second i) }
 
 pub write_union-requires : goal.write_union-requires
 write_union-requires c =
-    let a = c.args in
-    let n = c.in-Groups.n in
-    let w = accepted_says a.first.now a.g1 a.second.now a.g2 n (sym (ap table_answer c.in-Groups.is) ∙ c.decide.ensures) in
-    record { t = w.sound₁; t_2 = w.sound₂; g2_value = w.no_overflow; groups_value = w.groups; groups_in_bounds = omega (arith, w.groups, w.room) }
-
-pub returns-in-Groups : goal.returns-in-Groups
-returns-in-Groups c =
-    let a = c.args in
-    let e = sym (ap table_answer c.in-Groups.is) ∙ c.decide.ensures in
-    record { answer = e; content = leaves-written a.first.now a.g1 a.second.now a.g2 e c.write_union.ensures }
-
-pub returns-in-Refused : goal.returns-in-Refused
-returns-in-Refused c =
-    let a = c.args in
-    let e = sym (ap table_answer c.in-Refused.is) ∙ c.decide.ensures in
-    record { answer = e; content = leaves-same a.first.now a.g1 a.second.now a.g2 e }
+    let w = accepted_says c.args.first.now c.args.g1 c.args.second.now c.args.g2 c.in_ok-united.united c.in_ok-united.ensures in
+    record { first_sound = w.sound₁; no_overflow = w.no_overflow; union_groups = w.groups; in_bounds = omega (arith, w.groups, w.room) }

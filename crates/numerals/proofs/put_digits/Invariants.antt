@@ -1,12 +1,7 @@
-use Prim.Native.Nat.{◌≤◌}
-use mathlib.Core.Path.{◌≡◌}
-use lib.ListN.{length}
-use lib.Seq.{sets}
+use Rattle.std.proofs.Common.{◌≡◌, ◌++◌, length, drop}
 use Rattle.numerals.specs.Numerals.{digits}
 use Rattle.numerals.proofs.put_digits.Given as goal
 
+-- the digits still to be put, then those that stand there
 abbrev pub invariant-loop-k : goal.invariant-loop-k
-invariant-loop-k l = (l.k ≤ l.w) × (length l.text ≡ length l.initial.text) × (sets l.text l.at (digits l.base l.k l.y) ≡ sets l.initial.text l.at (digits l.base l.w l.n))
-
-abbrev pub decreases-loop-k : goal.decreases-loop-k
-decreases-loop-k l = l.k
+invariant-loop-k l = digits l.base l.k l.y ++ drop l.k l.part ≡ digits l.base (length l.initial.part) l.n

@@ -1,4 +1,4 @@
-use Prim.Native.Nat.{ℕ, ◌-◌, ◌≤◌}
+use Prim.Native.Nat.{ℕ}
 use mathlib.Core.Bool.{Bool}
 use mathlib.Core.List.{List}
 use Rattle.record.specs.Section.{Section, sections}
@@ -11,7 +11,4 @@ abbrev test : List Section → List ℕ → ℕ → Bool
 test ts ks k = count_overflows ks k (count_in k ts)
 
 abbrev pub invariant-loop-i : goal.invariant-loop-i
-invariant-loop-i l = (l.i ≤ l.n) × Undecided (test (sections l.t l.g) l.keys) (column_keys l.keys) l.i
-
-abbrev pub decreases-loop-i : goal.decreases-loop-i
-decreases-loop-i l = l.n - l.i
+invariant-loop-i l = Undecided (test (sections l.t.bytes.now l.t.groups) l.keys) (column_keys l.keys) l.i

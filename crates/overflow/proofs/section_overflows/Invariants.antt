@@ -1,4 +1,4 @@
-use Prim.Native.Nat.{ℕ, ◌-◌, ◌≤◌}
+use Prim.Native.Nat.{ℕ}
 use mathlib.Core.Bool.{Bool}
 use mathlib.Core.List.{List}
 use Rattle.record.specs.Section.{Section, sections}
@@ -10,7 +10,4 @@ abbrev test : List ℕ → Section → Bool
 test ks s = count_overflows ks s.key s.count
 
 abbrev pub invariant-loop-j : goal.invariant-loop-j
-invariant-loop-j l = (l.j ≤ l.g) × Undecided (test l.keys) (sections l.t l.g) l.j
-
-abbrev pub decreases-loop-j : goal.decreases-loop-j
-decreases-loop-j l = l.g - l.j
+invariant-loop-j l = Undecided (test l.keys) (sections l.t.bytes.now l.t.groups) l.j

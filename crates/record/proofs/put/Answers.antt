@@ -11,7 +11,7 @@ in-range c = search rules
 pub returns : goal.returns
 returns c =
     let a = c.args in (
-      record_stored a.t.now (a.i * 64) a.r c.put_u32.ensures c.put_u32-2.ensures c.put_u32-3.ensures c.put_u32-4.ensures
+      record_stored a.t.now (a.i * 64) a.r c.write.ensures c.write-2.ensures c.write-3.ensures c.write-4.ensures
           c.put_total.ensures c.put_total-2.ensures c.put_total-3.ensures,
       decode-encode a.r (in-range (goal.at.returns c).Start),
     )

@@ -14,4 +14,4 @@ pub returns : goal.returns
 returns c =
     let a = c.args in
     sets_then a.t.now a.at 8 (bytes 8 a.x.residue) (bytes 8 (of_z w64 a.x.carry))
-    c.put_u64.ensures (length-bytes 8 a.x.residue) (rw (to_z-of_z w64 a.x.carry (in-range (goal.at.returns c).Start)) at c.put_i64.ensures)
+    c.write.ensures (length-bytes 8 a.x.residue) (rw (to_z-of_z w64 a.x.carry (in-range (goal.at.returns c).Start)) at c.write-2.ensures)

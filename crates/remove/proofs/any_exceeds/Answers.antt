@@ -15,7 +15,6 @@ use Rattle.record.specs.Sound.{sound}
 use Rattle.record.specs.Section.{Section, meaning, record_of, sections}
 use Rattle.record.proofs.Laws.{get_d_sections}
 use Rattle.record.proofs.Sound.{sound_parts}
-use Rattle.record.proofs.Found.{sound_record_at}
 use Rattle.table.proofs.Bytes.{meaning_record}
 use Rattle.table.proofs.State.{length-sections}
 use Rattle.remove.specs.Remaining.{all_without, exceeds_for, exceeds, total_exceeds}
@@ -50,45 +49,36 @@ module _ (t : List ℕ) (g : ℕ) (ps : List Section) (i : ℕ) (sd : T (sound t
       ∙ ap exceeds (meaning_record (left_by ps (meaning held)))
       ∙ ap (λ (r : Record). test ps (meaning r)) read)
 
-pub get-held-requires : goal.get-held-requires
-get-held-requires c =
-    omega (arith, (sound_parts c.args.table.now c.args.g c.requires.t).0, c.loop-i-test.true)
-
 pub reduce-x-requires : goal.reduce-x-requires
 reduce-x-requires c =
-    let a = c.args in
-    let q = c.requires in
-    record {
-      t = rw c.get-held.ensures (sound_record_at a.table.now a.g c.loop-i.i q.t c.loop-i-test.true);
-      t_2 = q.t_2;
-      n_bound = rw c.get-held.ensures (rows_enough a.table.now a.g q.t (sections a.patch.now a.n) q.n_value c.loop-i.i c.loop-i-test.true);
-    }
+    let t = c.args.t in
+    let p = c.args.patch in
+    rw c.record-held.ensures (rows_enough t.bytes.now t.groups t.sound (sections p.bytes.now p.groups) c.requires c.loop-i.i (omega arith))
 
 pub loop-i-preserved : goal.loop-i-preserved
 loop-i-preserved c =
-    let a = c.args in
-    let ps = sections a.patch.now a.n in
+    let t = c.args.t in
+    let s = t.bytes.now in
+    let ps = sections c.args.patch.bytes.now c.args.patch.groups in
     let i = c.loop-i.i in
-    let h = c.loop-i-test.true in (
-      omega arith,
-      scan_next _ _ _ c.loop-i.invariant.1 (meaning (record_at a.table.now (i * 64))) (in_list a.table.now a.g ps i c.requires.t h)
-          (tested a.table.now a.g ps i c.requires.t h c.get-held.ensures c.reduce-x.ensures c.exceeds_for.ensures) c.if-exceeds_for.false,
-    )
+    let h : i < t.groups = omega arith in
+    scan_next _ _ _ c.loop-i.invariant (meaning (record_at s (i * 64))) (in_list s t.groups ps i t.sound h)
+    (tested s t.groups ps i t.sound h c.record-held.ensures c.reduce-x.ensures c.exceeds_for.ensures) c.if-exceeds_for.false
 
 pub returns-then-exceeds_for : goal.returns-then-exceeds_for
 returns-then-exceeds_for c =
-    let a = c.args in
-    let ps = sections a.patch.now a.n in
+    let t = c.args.t in
+    let s = t.bytes.now in
+    let ps = sections c.args.patch.bytes.now c.args.patch.groups in
     let i = c.loop-i.i in
-    let h = c.loop-i-test.true in
-    scan_found _ _ _ c.loop-i.invariant.1 (meaning (record_at a.table.now (i * 64))) (in_list a.table.now a.g ps i c.requires.t h)
-    (tested a.table.now a.g ps i c.requires.t h c.get-held.ensures c.reduce-x.ensures c.exceeds_for.ensures) c.if-exceeds_for.true
-    ∙ sym (total-tested (sections a.table.now a.g) ps)
+    let h : i < t.groups = omega arith in
+    scan_found _ _ _ c.loop-i.invariant (meaning (record_at s (i * 64))) (in_list s t.groups ps i t.sound h)
+    (tested s t.groups ps i t.sound h c.record-held.ensures c.reduce-x.ensures c.exceeds_for.ensures) c.if-exceeds_for.true
+    ∙ sym (total-tested (sections s t.groups) ps)
 
 pub returns : goal.returns
 returns c =
-    let s = c.args in
-    let l = c.loop-i in
-    let ts = sections s.table.now s.g in
-    let ps = sections s.patch.now s.n in
-    scan_end (test ps) ts l.i l.invariant.1 (omega (arith, length-sections s.table.now s.g, c.loop-i-test.false)) ∙ sym (total-tested ts ps)
+    let t = c.args.t in
+    let ts = sections t.bytes.now t.groups in
+    let ps = sections c.args.patch.bytes.now c.args.patch.groups in
+    scan_end (test ps) ts c.loop-i.i c.loop-i.invariant (omega (arith, length-sections t.bytes.now t.groups)) ∙ sym (total-tested ts ps)

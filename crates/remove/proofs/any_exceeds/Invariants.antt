@@ -1,4 +1,3 @@
-use Prim.Native.Nat.{◌-◌, ◌≤◌}
 use mathlib.Core.Bool.{Bool}
 use mathlib.Core.List.{List}
 use Rattle.lists.proofs.Scanning.{Undecided}
@@ -12,7 +11,4 @@ abbrev test : List Section → Section → Bool
 test ps t = exceeds (left_by ps t)
 
 abbrev pub invariant-loop-i : goal.invariant-loop-i
-invariant-loop-i l = (l.i ≤ l.g) × Undecided (test (sections l.patch l.n)) (sections l.table l.g) l.i
-
-abbrev pub decreases-loop-i : goal.decreases-loop-i
-decreases-loop-i l = l.g - l.i
+invariant-loop-i l = Undecided (test (sections l.patch.bytes.now l.patch.groups)) (sections l.t.bytes.now l.t.groups) l.i

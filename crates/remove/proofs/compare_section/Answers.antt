@@ -1,5 +1,5 @@
 -- `compare_section` looks the patch's section up, and compares counts and tops.
-use Prim.Native.Nat.{ℕ, ◌+◌, ◌*◌, ◌≤◌, ◌<◌}
+use Prim.Native.Nat.{ℕ, ◌*◌, ◌≤◌, ◌<◌}
 use mathlib.Core.Path.{◌≡◌, sym, ap, ◌∙◌}
 use mathlib.Core.Bool.{true, false}
 use mathlib.Core.List.{List}
@@ -7,14 +7,11 @@ use mathlib.Core.Option.{Option, some, none}
 use native.Mathlib.Omega.{arith}
 use borrow.Author.Tests.{lt-ltb, le-ltb}
 use lib.Dec.{T, ltb}
-use lib.ListN.{length}
-use Rattle.record.specs.declared.Place.{Place}
-use Rattle.record.specs.declared.Place.TheVariants.{Index, Gap}
+use Rattle.std.specs.Prelude.{Result, Ok, Err}
 use Rattle.record.specs.Layout.{records, record_at}
 use Rattle.record.specs.Keys.{record_keys, place}
 use Rattle.record.specs.Section.{Section, sections, meaning, find}
 use Rattle.record.specs.Sound.{sound}
-use Rattle.record.proofs.Sound.{sound_parts}
 use Rattle.record.proofs.Found.{found, missing}
 use Rattle.remove.specs.Remaining.{has_fewer, has_lower}
 use Rattle.remove.proofs.compare_section.Goals as goal
@@ -38,59 +35,31 @@ unfolding has_fewer
 not_held p e = rw e
 
 -- ---- where the key that was read was looked up in the table s of g records, and p is what came of it
-module _ (s : List ℕ) (g k : ℕ) (sd : T (sound s g)) {m : ℕ} {p : Place} (read : m ≡ k) (l : p ≡ place m (record_keys (records s g))) where
+module _ (s : List ℕ) (g k : ℕ) (sd : T (sound s g)) {m : ℕ} {p : Result ℕ ℕ} (read : m ≡ k) (l : p ≡ place m (record_keys (records s g))) where
   is_place : p ≡ place k (record_keys (records s g))
   is_place = l ∙ ap (λ (m : ℕ). place m (record_keys (records s g))) read
 
-  module _ (j : ℕ) (e : p ≡ Index j) where
-    within : j * 64 + 64 ≤ length s
-    within = (found s g k j sd (sym e ∙ is_place)).0
+  held : (j : ℕ) → p ≡ Ok j → find k (sections s g) ≡ some (meaning (record_at s (j * 64)))
+  held j e = (found s g k j sd (sym e ∙ is_place)).1
 
-    held : find k (sections s g) ≡ some (meaning (record_at s (j * 64)))
-    held = (found s g k j sd (sym e ∙ is_place)).1
+  absent : (i : ℕ) → p ≡ Err i → find k (sections s g) ≡ none
+  absent i e = missing s g k i sd (sym e ∙ is_place)
 
-  absent : (j : ℕ) → p ≡ Gap j → find k (sections s g) ≡ none
-  absent j e = missing s g k j sd (sym e ∙ is_place)
+pub returns-then-count : goal.returns-then-count
+returns-then-count c =
+    let t = c.args.t in
+    let p = meaning (record_at c.args.patch.bytes.now (c.args.i * 64)) in
+    fewer-held p (held t.bytes.now t.groups p.key t.sound c.key.ensures c.locate_in.ensures.place _ c.in-Ok.is) (omega (arith, c.count.ensures, c.count-in-Ok.ensures))
 
-pub locate-requires : goal.locate-requires
-locate-requires c =
-    let p = sound_parts c.args.table.now c.args.g c.requires.t in
-    (p.0, p.2)
+pub returns-else-count : goal.returns-else-count
+returns-else-count c =
+    let t = c.args.t in
+    let p = meaning (record_at c.args.patch.bytes.now (c.args.i * 64)) in
+    let h = held t.bytes.now t.groups p.key t.sound c.key.ensures c.locate_in.ensures.place _ c.in-Ok.is in
+    (enough-held p h (omega (arith, c.count.ensures, c.count-in-Ok.ensures)), lower-held p h c.top.ensures c.top-in-Ok.ensures)
 
-pub overflow_mul-held : goal.overflow_mul-held
-overflow_mul-held c = omega (arith, within c.args.table.now c.args.g _ c.requires.t c.u32_at.ensures c.locate.ensures _ c.in-Index.is)
-
-pub overflow_add-held : goal.overflow_add-held
-overflow_add-held c = omega (arith, within c.args.table.now c.args.g _ c.requires.t c.u32_at.ensures c.locate.ensures _ c.in-Index.is)
-
-pub u32_at-requires-in-Index : goal.u32_at-requires-in-Index
-u32_at-requires-in-Index c = omega (arith, within c.args.table.now c.args.g _ c.requires.t c.u32_at.ensures c.locate.ensures _ c.in-Index.is)
-
-pub returns-then-u32_at : goal.returns-then-u32_at
-returns-then-u32_at c =
-    let p = meaning (record_at c.args.patch.now (c.args.i * 64)) in
-    let t = meaning (record_at c.args.table.now (c.in-Index.j * 64)) in
-    let few : t.count < p.count = omega (arith, c.u32_at-in-Index.ensures, c.u32_at-in-Index-2.ensures) in
-    fewer-held p (held c.args.table.now c.args.g p.key c.requires.t c.u32_at.ensures c.locate.ensures _ c.in-Index.is) few
-
-pub overflow_add-held-in-Index : goal.overflow_add-held-in-Index
-overflow_add-held-in-Index c = omega (arith, within c.args.table.now c.args.g _ c.requires.t c.u32_at.ensures c.locate.ensures _ c.in-Index.is)
-
-pub u32_at-requires-in-Index-3 : goal.u32_at-requires-in-Index-3
-u32_at-requires-in-Index-3 c = omega (arith, within c.args.table.now c.args.g _ c.requires.t c.u32_at.ensures c.locate.ensures _ c.in-Index.is)
-
-pub overflow_add-result : goal.overflow_add-result
-overflow_add-result c = omega (arith, within c.args.table.now c.args.g _ c.requires.t c.u32_at.ensures c.locate.ensures _ c.in-Index.is)
-
-pub returns-else-u32_at : goal.returns-else-u32_at
-returns-else-u32_at c =
-    let p = meaning (record_at c.args.patch.now (c.args.i * 64)) in
-    let t = meaning (record_at c.args.table.now (c.in-Index.j * 64)) in
-    let enough : p.count ≤ t.count = omega (arith, c.u32_at-in-Index.ensures, c.u32_at-in-Index-2.ensures) in
-    let h = held c.args.table.now c.args.g p.key c.requires.t c.u32_at.ensures c.locate.ensures _ c.in-Index.is in
-    (enough-held p h enough, lower-held p h c.u32_at-in-Index-3.ensures c.u32_at-in-Index-4.ensures)
-
-pub returns-in-Gap : goal.returns-in-Gap
-returns-in-Gap c =
-    let p = meaning (record_at c.args.patch.now (c.args.i * 64)) in
-    not_held p (absent c.args.table.now c.args.g p.key c.requires.t c.u32_at.ensures c.locate.ensures _ c.in-Gap.is)
+pub returns-in-Err : goal.returns-in-Err
+returns-in-Err c =
+    let t = c.args.t in
+    let p = meaning (record_at c.args.patch.bytes.now (c.args.i * 64)) in
+    not_held p (absent t.bytes.now t.groups p.key t.sound c.key.ensures c.locate_in.ensures.place _ c.in-Err.is)

@@ -1,14 +1,13 @@
 -- `compare_sections`: no section before i lacks rows, so those from i on decide 20; whether one of those before i raises a top is noted.
-use Prim.Native.Nat.{ℕ, ◌+◌, ◌*◌, ◌≤◌, ◌<◌}
+use Prim.Native.Nat.{ℕ, ◌*◌, ◌≤◌, ◌<◌}
 use mathlib.Core.Path.{◌≡◌, refl, sym, ap, ap₂, ◌∙◌, subst}
-use mathlib.Core.Bool.{Bool, cond, ◌||◌}
+use mathlib.Core.Bool.{Bool, cond}
 use mathlib.Core.List.{List}
 use mathlib.Core.Option.{Option}
 use native.Mathlib.Omega.{arith}
 use lib.Dec.{T}
-use lib.ListN.{length, get_or, drop}
+use lib.ListN.{length, get_or}
 use Rattle.refusal.specs.Outcome.{accepted, refused}
-use Rattle.lists.specs.Lists.{any_of}
 use Rattle.lists.proofs.Scanning.{Undecided, scan_found, scan_next, scan_end, Noted, note_next, note_end}
 use Rattle.record.specs.Layout.{record_at}
 use Rattle.record.specs.Sound.{sound}
@@ -17,8 +16,8 @@ use Rattle.record.proofs.Laws.{get_d_sections}
 use Rattle.record.proofs.Sound.{sound_parts}
 use Rattle.table.proofs.State.{length-sections}
 use Rattle.remove.specs.Remaining.{has_fewer, has_lower, raises_top}
-use Rattle.remove.specs.declared.Standing.{Standing}
-use Rattle.remove.specs.declared.Standing.TheVariants.{Enough}
+use Rattle.std.specs.Prelude as prelude
+use Rattle.remove.specs.declared.Enough.{Enough}
 use Rattle.remove.specs.Steps.{Stands, compared_outcome}
 use Rattle.remove.proofs.compare_sections.Goals as goal
 
@@ -29,8 +28,8 @@ abbrev lower : List Section → Section → Bool
 lower ts p = has_lower (find p.key ts) p
 
 -- where x is how a section stands
-stands_as : (o : Option Section) (t : Section) {r x : Standing} → r ≡ x → Stands o t r → Stands o t x
-stands_as o t e h = subst (λ (y : Standing). Stands o t y) e h
+stands_as : (o : Option Section) (t : Section) {r x : prelude.Option Enough} → r ≡ x → Stands o t r → Stands o t x
+stands_as o t e h = subst (λ (y : prelude.Option Enough). Stands o t y) e h
 
 -- the section i of a patch of n sections in s
 module _ (s : List ℕ) (n i : ℕ) (sd : T (sound s n)) (h : i < n) where
@@ -52,48 +51,45 @@ answered ts s n i {noted} h u t e =
     sym (ap₂ (λ (a b : Bool). cond a (refused 20) (cond b (refused 21) (accepted tt))) (sym (scan_end (fewer ts) ps i u all)) (note_end (lower ts) ps i noted t all ∙ e))
 
 pub loop-i-init : goal.loop-i-init
-loop-i-init c = (omega arith, refl, refl)
-
-pub compare_section-requires : goal.compare_section-requires
-compare_section-requires c =
-    record { t = c.requires.t; i_in_bounds = omega (arith, (sound_parts c.args.patch.now c.args.n c.requires.t_2).0, c.loop-i-test.true) }
+loop-i-init c = record { none_fewer = refl; lower_noted = refl }
 
 pub returns-in_default : goal.returns-in_default
 returns-in_default c =
-    let a = c.args in
-    let ts = sections a.table.now a.g in
-    let s = a.patch.now in
-    let ps = sections s a.n in
+    let t = c.args.t in
+    let p = c.args.patch in
+    let ts = sections t.bytes.now t.groups in
+    let s = p.bytes.now in
+    let ps = sections s p.groups in
     let i = c.loop-i.i in
-    let h = c.loop-i-test.true in
+    let h : i < p.groups = omega arith in
     ap (λ (b : Bool). cond b (refused 20) (cond (raises_top ts ps) (refused 21) (accepted tt)))
-    (scan_found (fewer ts) ps i c.loop-i.invariant.1 (here s a.n i c.requires.t_2 h) (in_list s a.n i c.requires.t_2 h) (ap (fewer ts) (is-here s a.n i c.requires.t_2 h))
-    (stands_as (find (here s a.n i c.requires.t_2 h).key ts) (here s a.n i c.requires.t_2 h) c.in_default.is c.compare_section.ensures))
+    (scan_found (fewer ts) ps i c.loop-i.invariant.none_fewer (here s p.groups i p.sound h) (in_list s p.groups i p.sound h) (ap (fewer ts) (is-here s p.groups i p.sound h))
+    (stands_as (find (here s p.groups i p.sound h).key ts) (here s p.groups i p.sound h) c.in_default.is c.compare_section.ensures))
 
 pub loop-i-preserved : goal.loop-i-preserved
 loop-i-preserved c =
-    let a = c.args in
-    let ts = sections a.table.now a.g in
-    let s = a.patch.now in
-    let ps = sections s a.n in
+    let t = c.args.t in
+    let p = c.args.patch in
+    let ts = sections t.bytes.now t.groups in
+    let s = p.bytes.now in
+    let ps = sections s p.groups in
     let i = c.loop-i.i in
-    let h = c.loop-i-test.true in
-    let d = here s a.n i c.requires.t_2 h in
-    let l = in_list s a.n i c.requires.t_2 h in
-    let e = is-here s a.n i c.requires.t_2 h in
-    let w : Stands (find d.key ts) d (Enough c.in-Enough.too_low c.in-Enough.at) = stands_as (find d.key ts) d c.in-Enough.is c.compare_section.ensures in (
-      omega (arith, c.loop-i-test.true),
-      scan_next (fewer ts) ps i c.loop-i.invariant.1 d l (ap (fewer ts) e) w.0,
-      ap (λ (f : Bool). f || any_of (lower ts) (drop (i + 1) ps)) c.either-any_too_low.ensures
-          ∙ note_next (lower ts) ps i c.loop-i.any_too_low c.loop-i.invariant.2 d l (ap (lower ts) e ∙ w.1),
-    )
+    let h : i < p.groups = omega arith in
+    let d = here s p.groups i p.sound h in
+    let l = in_list s p.groups i p.sound h in
+    let e = is-here s p.groups i p.sound h in
+    let w = stands_as (find d.key ts) d c.in-Some.is c.compare_section.ensures in
+    record {
+      none_fewer = scan_next (fewer ts) ps i c.loop-i.invariant.none_fewer d l (ap (fewer ts) e) w.0;
+      lower_noted = note_next (lower ts) ps i c.loop-i.any_too_low c.loop-i.invariant.lower_noted d l (ap (lower ts) e ∙ w.1);
+    }
 
 pub returns-then-any_too_low : goal.returns-then-any_too_low
 returns-then-any_too_low c =
-    let a = c.args in
-    answered (sections a.table.now a.g) a.patch.now a.n c.loop-i.i c.loop-i-test.false c.loop-i.invariant.1 c.loop-i.invariant.2 c.if-any_too_low.true
+    let t = c.args.t in
+    answered (sections t.bytes.now t.groups) c.args.patch.bytes.now c.args.patch.groups c.loop-i.i (omega arith) c.loop-i.invariant.none_fewer c.loop-i.invariant.lower_noted c.if-any_too_low.true
 
 pub returns : goal.returns
 returns c =
-    let a = c.args in
-    answered (sections a.table.now a.g) a.patch.now a.n c.loop-i.i c.loop-i-test.false c.loop-i.invariant.1 c.loop-i.invariant.2 c.if-any_too_low.false
+    let t = c.args.t in
+    answered (sections t.bytes.now t.groups) c.args.patch.bytes.now c.args.patch.groups c.loop-i.i (omega arith) c.loop-i.invariant.none_fewer c.loop-i.invariant.lower_noted c.if-any_too_low.false

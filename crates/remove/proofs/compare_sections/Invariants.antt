@@ -1,4 +1,3 @@
-use Prim.Native.Nat.{◌-◌, ◌≤◌}
 use mathlib.Core.Bool.{Bool}
 use mathlib.Core.List.{List}
 use Rattle.lists.proofs.Scanning.{Undecided, Noted}
@@ -13,7 +12,7 @@ abbrev lower : List Section → Section → Bool
 lower ts p = has_lower (find p.key ts) p
 
 abbrev pub invariant-loop-i : goal.invariant-loop-i
-invariant-loop-i l = (l.i ≤ l.n) × Undecided (fewer (sections l.table l.g)) (sections l.patch l.n) l.i × Noted (lower (sections l.table l.g)) (sections l.patch l.n) l.i l.any_too_low
-
-abbrev pub decreases-loop-i : goal.decreases-loop-i
-decreases-loop-i l = l.n - l.i
+invariant-loop-i l =
+    let ts = sections l.t.bytes.now l.t.groups in
+    let ps = sections l.patch.bytes.now l.patch.groups in
+    record { none_fewer : Undecided (fewer ts) ps l.i; lower_noted : Noted (lower ts) ps l.i l.any_too_low }

@@ -22,33 +22,35 @@ module _ {s : List ℕ} {g : ℕ} {ps : List Section} {s' : List ℕ} {kept i : 
   reduced e = e ∙ ap (λ (r : Record). record_of (left_by ps (meaning r))) read
 
 pub loop-i-init : goal.loop-i-init
-loop-i-init c = let a = c.args in none_kept a.table.now a.g (sections a.patch.now a.n)
+loop-i-init c = none_kept c.args.table.now c.args.g (sections c.args.patch.bytes.now c.args.patch.groups)
 
-pub get-requires : goal.get-requires
-get-requires c = next-within c.requires.t c.loop-i.invariant c.loop-i-test.true
+pub get-raw-requires : goal.get-raw-requires
+get-raw-requires c = next-within c.requires.sound_table c.loop-i.invariant (omega arith)
+
+pub invariant_of-reduce : goal.invariant_of-reduce
+invariant_of-reduce c =
+    let a = c.args in
+    let h : c.loop-i.i < a.g = omega arith in
+    record { sound = rw (read c.requires.sound_table c.loop-i.invariant h c.get-raw.ensures) (sound_record_at a.table.now a.g c.loop-i.i c.requires.sound_table h) }
 
 pub reduce-x-requires : goal.reduce-x-requires
 reduce-x-requires c =
     let a = c.args in
     let q = c.requires in
-    let h = c.loop-i-test.true in
-    let e = read q.t c.loop-i.invariant h c.get.ensures in
-    record {
-      t = rw e (sound_record_at a.table.now a.g c.loop-i.i q.t h);
-      t_2 = q.t_2;
-      n_bound = rw e (rows_enough a.table.now a.g q.t (sections a.patch.now a.n) q.n_value c.loop-i.i h);
-    }
+    let h : c.loop-i.i < a.g = omega arith in
+    rw (read q.sound_table c.loop-i.invariant h c.get-raw.ensures) (rows_enough a.table.now a.g q.sound_table (sections a.patch.bytes.now a.patch.groups) q.enough_rows c.loop-i.i h)
 
 pub put-requires : goal.put-requires
-put-requires c = next_place c.requires.t c.loop-i.invariant c.loop-i-test.true
+put-requires c = next_place c.requires.sound_table c.loop-i.invariant (omega arith)
 
 pub overflow_add-kept : goal.overflow_add-kept
-overflow_add-kept c = omega (arith, kept-fewer c.requires.t c.loop-i.invariant)
+overflow_add-kept c = omega (arith, kept-fewer c.requires.sound_table c.loop-i.invariant)
 
 pub loop-i-preserved : goal.loop-i-preserved
 loop-i-preserved c =
-    let e = reduced c.requires.t c.loop-i.invariant c.loop-i-test.true c.get.ensures c.reduce-x.ensures in
+    let h : c.loop-i.i < c.args.g = omega arith in
+    let e = reduced c.requires.sound_table c.loop-i.invariant h c.get-raw.ensures c.reduce-x.ensures in
     elim c.if-x-gt0.branch [
-      | then-x-gt0 w ↦ one_kept c.requires.t c.loop-i.invariant c.loop-i-test.true e w.if-x-gt0.true (w.table-is ∙ w.put.ensures.0) w.kept-is
-      | else-x-gt0 w ↦ one_gone c.requires.t c.loop-i.invariant c.loop-i-test.true e w.if-x-gt0.false w.table-is w.kept-is
+      | then-x-gt0 w ↦ one_kept c.requires.sound_table c.loop-i.invariant h e w.if-x-gt0.true (w.table-is ∙ w.put.ensures.0) w.kept-is
+      | else-x-gt0 w ↦ one_gone c.requires.sound_table c.loop-i.invariant h e w.if-x-gt0.false w.table-is w.kept-is
     ]

@@ -20,4 +20,4 @@ joined r p h m l = rw (h, m, l)
 
 pub returns : goal.returns
 returns c =
-    joined c.args.r c.args.p c.total_without.ensures c.total_without-2.ensures c.total_without-3.ensures
+    joined c.args.r.raw c.args.p.raw c.total_without.ensures c.total_without-2.ensures c.total_without-3.ensures

@@ -1,36 +1,37 @@
 -- `print_file` prints what the columns of an accepted file print, or the file's refusal.
-use Prim.Native.Nat.{ℕ, ◌+◌}
 use mathlib.Core.Path.{◌≡◌, sym, ap, ◌∙◌}
-use mathlib.Core.List.{List, ◌++◌}
-use native.Mathlib.Omega.{arith}
+use mathlib.Core.List.{◌++◌}
+use Rattle.codec.proofs.Laws.{AreBytes}
+use Rattle.patch.specs.File.{kind_of}
+use Rattle.patch.proofs.File.{key-bytes, value-bytes}
 use Rattle.refusal.specs.Number.{number_of}
-use Rattle.patch.specs.File.{file_outcome}
-use Rattle.patch.specs.Answer.{read_answer}
-use Rattle.numerals.specs.Steps.{Continued}
-use Rattle.numerals.proofs.Texts.{longer}
-use Rattle.report.specs.Text.{refusal_text, line_feed}
-use Rattle.report.specs.Steps.{longest_refusal}
+use Rattle.refusal.specs.Answer.{outcome_of}
+use Rattle.report.specs.Text.{refusal_text, line_feed, columns_text, report_text}
 use Rattle.report.proofs.Whole.{file-accepted, file-refused}
 use Rattle.report.proofs.print_file.Goals as goal
-use Rattle.report.proofs.print_file.Goals.{After-read}
+use Rattle.report.proofs.print_file.Goals.{After-values, In-Err}
 
--- where the file was read
-module _ (d : After-read) where
-  abbrev file : List ℕ
-  file = d.args.file.now
+-- the text of a file that is read, and of one that is refused
+accepted-text : (c : After-values) → report_text c.args.file.now ≡ columns_text c.in-Ok.rows.kind c.keys.result.now c.values.result.now
+accepted-text c = rw (c.keys.ensures.content, c.values.ensures.content) (file-accepted c.args.file.now _ (sym c.read.ensures ∙ ap outcome_of c.in-Ok.is))
 
-  outcome-here : file_outcome file ≡ read_answer d.read.result
-  outcome-here = sym d.read.ensures
+refused-text : (c : In-Err) → report_text c.args.file.now ≡ refusal_text (number_of c.in-Err.why) ++ line_feed
+refused-text c = file-refused c.args.file.now (number_of c.in-Err.why) (sym c.read.ensures ∙ ap outcome_of c.in-Err.is)
 
-pub returns-in-Rows : goal.returns-in-Rows
-returns-in-Rows c =
-    let r = c.in-Rows in
-    rw (file-accepted (file (goal.at.returns-in-Rows c).After-read) _ (outcome-here (goal.at.returns-in-Rows c).After-read ∙ ap read_answer r.is), ← c.keys.ensures.content, ← c.values.ensures.content) c.print_columns.ensures
+pub print_columns-requires : goal.print_columns-requires
+print_columns-requires c = rw (accepted-text (goal.at.print_columns-requires c).After-values) at c.requires
 
-pub returns-in-Refused : goal.returns-in-Refused
-returns-in-Refused c =
-    let r = c.in-Refused in
-    let p = c.print_refusal in
-    let n = c.number_of in
-    let t : Continued c.args.text.now 0 (refusal_text n.result ++ line_feed) (longest_refusal + 1) p.new.text p.result = p.ensures in
-    rw (file-refused (file (goal.at.returns-in-Refused c).After-read) (number_of r.r) (outcome-here (goal.at.returns-in-Refused c).After-read ∙ ap read_answer r.is), ← n.ensures) (longer t (omega arith))
+pub print_refusal-requires : goal.print_refusal-requires
+print_refusal-requires c = rw (refused-text (goal.at.print_refusal-requires c).In-Err) at c.requires
+
+pub returns-in-Ok : goal.returns-in-Ok
+returns-in-Ok c = rw (accepted-text (goal.at.returns-in-Ok c).After-values) c.print_columns.ensures
+
+pub returns-in-Err : goal.returns-in-Err
+returns-in-Err c = rw (refused-text (goal.at.returns-in-Err c).In-Err) c.print_refusal.ensures
+
+pub invariant_of-columns : goal.invariant_of-columns
+invariant_of-columns c =
+    let f = c.args.file.now in
+    let h : AreBytes f = λ i. (c.type_inv.file i).fits in
+    record { keys_fit = rw c.keys.ensures.content (key-bytes (kind_of f) f h); values_fit = rw c.values.ensures.content (value-bytes (kind_of f) f h) }

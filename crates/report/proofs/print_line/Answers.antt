@@ -1,38 +1,52 @@
-use mathlib.Core.List.{◌++◌}
-use native.Mathlib.Omega.{arith}
-use lib.IntN.{ℤ}
-use mir.Syntax.{w32}
-use mir.Val.{SFits}
-use mir.ValLaws.{to_z-of_z}
-use Rattle.finish.proofs.Fraction.{not_nan}
+-- `report::print_line`: the room left for each piece of the line, and the line, piece by piece.
+use denote.Floats.{passes}
+use denote.Enum.Declared.{tag_of}
+use lib.IntN.{negsuc, ◌+ℤ◌}
+use mathlib.Core.Path.{◌≡◌, refl}
+use mir.Val.{to_z, of_z}
+use Rattle.std.specs.contracts.cmp.Ordering as ordering
+use Rattle.std.specs.declared.cmp.Ordering.{Ordering}
+use Rattle.std.specs.declared.cmp.Ordering.TheVariants.{Less, Equal, Greater}
 use Rattle.limbs.specs.Side.{side_number}
-use Rattle.numerals.specs.Numerals.{decimal, integer}
-use Rattle.numerals.specs.Steps.{Continued}
-use Rattle.numerals.proofs.Texts.{then_ended}
-use Rattle.report.specs.Text.{space, line_feed, last_fields, figure_fields}
-use Rattle.report.specs.Steps.{longest_key_and_count}
-use Rattle.report.proofs.Lines.{line_printed}
+use mir.Syntax.{w32}
+use mir.ValLaws.{to_z-of_z}
+use Rattle.std.proofs.Common.{append_assoc, length-append, arith, rules}
+use Rattle.finish.proofs.Fraction.{not_nan}
+use Rattle.report.proofs.Lines.{line_pieces}
 use Rattle.report.proofs.print_line.Goals as goal
-use Rattle.report.proofs.print_line.Goals.{After-print_bits_field-b, After-print_integer_field-c, After-print_key_and_count-a, Start}
 
--- where the mill figure was printed
-module _ (c : After-print_integer_field-c) where
-  numbers-printed : Continued c.args.text.now c.args.at (decimal c.args.line.key ++ space ++ decimal c.args.line.count ++ space) longest_key_and_count c.print_key_and_count-a.new.text c.print_key_and_count-a.result
-  numbers-printed = c.print_key_and_count-a.ensures
-
-  abbrev figure : ℤ
-  figure = c.args.line.figure
-
-  figure-fits : SFits w32 figure
-  figure-fits = omega (arith, c.struct_told-1.given)
+-- the number that a side is cast to
+numbered : (d : Ordering) → to_z w32 (of_z w32 (to_z w32 (tag_of ordering.the_type d) +ℤ negsuc 0)) ≡ side_number d
+numbered Less = refl
+numbered Equal = refl
+numbered Greater = refl
 
 pub float_to_bits-line : goal.float_to_bits-line
-float_to_bits-line c = not_nan c.args.line.sum c.requires.t
+float_to_bits-line c = not_nan c.args.line.sum (passes _ c.requires.finite_sum)
+
+pub print_key_and_count-requires : goal.print_key_and_count-requires
+print_key_and_count-requires c =
+    let fits = simp (line_pieces, length-append) at c.requires.fits in
+    simp length-append (omega arith)
+
+pub push_field-requires : goal.push_field-requires
+push_field-requires c =
+    let fits = simp (line_pieces, length-append) at c.requires.fits in
+    rw c.print_key_and_count.ensures (search rules, simp length-append (omega arith))
+
+pub push_field-requires-2 : goal.push_field-requires-2
+push_field-requires-2 c =
+    let fits = simp (line_pieces, length-append) at c.requires.fits in
+    rw (to_z-of_z w32 c.args.line.figure (omega arith), c.push_field.ensures, c.print_key_and_count.ensures) (search rules, simp length-append (omega arith))
+
+pub push_field-requires-3 : goal.push_field-requires-3
+push_field-requires-3 c =
+    let fits = simp (line_pieces, length-append) at c.requires.fits in
+    let figure = rw (to_z-of_z w32 c.args.line.figure (omega arith)) at c.push_field-2.ensures in
+    rw (numbered c.args.line.side, figure, c.push_field.ensures, c.print_key_and_count.ensures) (search rules, simp length-append (omega arith))
 
 pub returns : goal.returns
-unfolding last_fields figure_fields
 returns c =
-    let side-text = integer (side_number c.args.line.side) in
-    let figure-printed = rw (to_z-of_z w32 (figure (goal.at.returns c).After-print_integer_field-c) (figure-fits (goal.at.returns c).After-print_integer_field-c)) at c.print_integer_field-c.ensures in
-    let last = then_ended side-text line_feed figure-printed c.print_side.ensures in
-    line_printed _ _ _ (numbers-printed (goal.at.returns c).After-print_integer_field-c) (then_ended (integer (figure (goal.at.returns c).After-print_integer_field-c) ++ space ++ side-text) line_feed c.print_bits_field-b.ensures last)
+    let figure = rw (to_z-of_z w32 c.args.line.figure (omega arith)) at c.push_field-2.ensures in
+    let side = rw (numbered c.args.line.side) at c.push_field-3.ensures in
+    rw (line_pieces, side, figure, c.push_field.ensures, c.print_key_and_count.ensures) (simp append_assoc)

@@ -1,40 +1,42 @@
 use mathlib.Core.Path.{◌≡◌, sym, ap, ◌∙◌, subst}
-use mathlib.Core.Option.{some}
-use native.Mathlib.Omega.{arith}
+use lib.Ieee.Bits.{is_true}
+use lib.Ieee.Scale.{finite}
+use Rattle.refusal.specs.Number.{number_of}
+use Rattle.refusal.specs.Answer.{outcome_of}
 use Rattle.refusal.specs.Outcome.{refused}
 use Rattle.record.specs.Section.{Section, meaning, kept}
-use Rattle.finish.specs.Finish.{sum_of, line_of}
-use Rattle.finish.specs.Answer.{line_answer, sum_answer}
+use Rattle.finish.specs.Answer.{sum_answer}
 use Rattle.finish.specs.Steps.{FiniteSum}
 use Rattle.finish.proofs.Outcomes.{sum_for_lem, finite_for}
-use Rattle.numerals.proofs.Texts.{longer}
+use Rattle.report.specs.Text.{line_with, last_fields, line_text}
 use Rattle.report.proofs.Lines.{GivesLine, line-finished, unfinished}
 use Rattle.report.proofs.print_section.Goals as goal
-use Rattle.report.proofs.print_section.Goals.{After-number_of, In-Line, In-Refused}
+use Rattle.report.proofs.print_section.Goals.{In-Ok, After-record_sum}
 
-gives_line : (d : In-Line) → GivesLine (meaning d.args.r) d.in-Line.line
-gives_line d = line-finished (meaning d.args.r) d.in-Line.line (sym (ap line_answer d.in-Line.is) ∙ d.record_line.ensures)
+-- where the line is finished
+gives_line : (d : In-Ok) → GivesLine (meaning d.args.r.raw) d.in-Ok.line
+gives_line d = line-finished (meaning d.args.r.raw) d.in-Ok.line (sym (ap outcome_of d.in-Ok.is) ∙ d.record_line.ensures)
 
--- where the line was refused: its section, its sum, and the number that it prints
-module _ (d : After-number_of) where
-  abbrev section_here : Section
-  section_here = meaning d.args.r
-
-  sum-here : sum_answer d.record_sum.result ≡ sum_of (some section_here)
-  sum-here = ap sum_answer d.record_sum.ensures ∙ sum_for_lem section_here
-
-  refusal-here : refused d.number_of.result ≡ line_of (some section_here)
-  refusal-here = ap refused d.number_of.ensures ∙ sym (ap line_answer d.in-Refused.is) ∙ d.record_line.ensures
+-- where it is refused: what is printed in its place
+refused-text : (d : After-record_sum) → line_with d.args.r.raw.key d.args.r.raw.count (last_fields (sum_answer d.record_sum.result) (refused (number_of d.in-Err.why))) ≡ line_text (meaning d.args.r.raw)
+refused-text d =
+    let here : Section = meaning d.args.r.raw in
+    let sum-here = ap sum_answer d.record_sum.ensures ∙ sum_for_lem here in
+    rw sum-here (unfinished here (number_of d.in-Err.why) (sym (ap outcome_of d.in-Err.is) ∙ d.record_line.ensures))
 
 pub print_line-requires : goal.print_line-requires
-print_line-requires c = record { longest_finished_line_in_bounds = omega arith; t = (gives_line (goal.at.print_line-requires c).In-Line).0 }
+print_line-requires c =
+    let line = gives_line (goal.at.print_line-requires c).In-Ok in
+    record { fits = rw line.1 c.requires; finite_sum = is_true (finite c.in-Ok.line.sum) line.0 }
 
 pub print_unfinished-requires : goal.print_unfinished-requires
-print_unfinished-requires c = record { longest_line_in_bounds = omega arith; finite_sum = subst FiniteSum (sym c.record_sum.ensures) (finite_for (kept (section_here (goal.at.print_unfinished-requires c).After-number_of))) }
+print_unfinished-requires c = record {
+  fits = rw (refused-text c) c.requires;
+  finite_sum = subst FiniteSum (sym c.record_sum.ensures) (finite_for (kept (meaning c.args.r.raw)));
+}
 
-pub returns-in-Line : goal.returns-in-Line
-returns-in-Line c = rw (← (gives_line (goal.at.returns-in-Line c).In-Line).1) (longer c.print_line.ensures (omega arith))
+pub returns-in-Ok : goal.returns-in-Ok
+returns-in-Ok c = rw (← (gives_line (goal.at.returns-in-Ok c).In-Ok).1) c.print_line.ensures
 
-pub returns-in-Refused : goal.returns-in-Refused
-returns-in-Refused c =
-    rw (← unfinished (section_here (goal.at.returns-in-Refused c).After-number_of) c.number_of.result (refusal-here (goal.at.returns-in-Refused c).After-number_of)) (rw (sum-here (goal.at.returns-in-Refused c).After-number_of) at c.print_unfinished.ensures)
+pub returns-in-Err : goal.returns-in-Err
+returns-in-Err c = rw (← refused-text (goal.at.returns-in-Err c).After-record_sum) c.print_unfinished.ensures

@@ -1,4 +1,4 @@
-use mathlib.Core.Path.{◌∙◌, ap}
+use mathlib.Core.Path.{ap}
 use mathlib.Core.Bool.{Bool, ◌&&◌}
 use lib.Dec.{eqb}
 use mir.Syntax.{w64}
@@ -14,4 +14,4 @@ in-range c = search rules
 
 pub returns : goal.returns
 unfolding is_zero
-returns c = c.both.ensures ∙ ap (λ (t : Bool). eqb c.args.x.residue 0 && t) (zero_by_bits c.args.x.carry (in-range (goal.at.returns c).Start))
+returns c = ap (λ (t : Bool). eqb c.args.x.residue 0 && t) (zero_by_bits c.args.x.carry (in-range (goal.at.returns c).Start))

@@ -1,5 +1,5 @@
 -- `records_sound`: the records from i on decide, and the keys from i on, since each before i was sound and rose.
-use Prim.Native.Nat.{ℕ, suc, ◌+◌, ◌*◌, ◌≤◌, ◌<◌, zero-le}
+use Prim.Native.Nat.{ℕ, suc, ◌+◌, ◌*◌, ◌≤◌, ◌<◌}
 use mathlib.Core.Path.{◌≡◌, refl, sym, ap, ap₂, ◌∙◌}
 use mathlib.Core.Bool.{Bool, true, false, not, ◌&&◌, and-false}
 use mathlib.Core.List.{List}
@@ -16,7 +16,7 @@ use Rattle.record.specs.Sound.{sound_record, sound_records}
 use Rattle.record.proofs.Laws.{get_d_records, get_d_keys, length-keys}
 use Rattle.soundness.proofs.Tests.{sound_cons, rising_more, rising_stop, rising_last}
 use Rattle.soundness.proofs.records_sound.Goals as goal
-use Rattle.soundness.proofs.records_sound.Goals.{Else-not-ok, Start}
+use Rattle.soundness.proofs.records_sound.Goals.{then-next-g+else-read-r, else-next-g}
 
 -- the records from i on
 abbrev from : List ℕ → ℕ → ℕ → Bool
@@ -58,54 +58,27 @@ module _ (s : List ℕ) (g i : ℕ) (fits : g * 64 ≤ length s) (h : i < g) {r 
         let up : rising (drop i (record_keys (records s g))) ≡ rising (drop (i + 1) (record_keys (records s g))) = rw add-one (rising_more (record_keys (records s g)) i (omega (arith, length-keys s g)) (omega (arith, first, second))) in
         ap₂ (λ (a b : Bool). a && b) up (more e)
 
--- where the record at i was found sound
-module _ (e : Else-not-ok) where
-  abbrev t : List ℕ
-  t = e.args.t.now
-
-  abbrev g : ℕ
-  g = e.args.g
-
-  abbrev i : ℕ
-  i = e.loop-i.i
-
-  abbrev key : ℕ
-  key = e.get-r.result.key
-
-  before-end : i < g
-  before-end = e.loop-i-test.true
-
-  undecided : from t g i ≡ (rising (record_keys (records t g)) && sound_records (records t g))
-  undecided = e.loop-i.invariant.1
-
-  -- the next key y is not larger
-  falls : i + 1 < g → {y : ℕ} → y ≡ number_at 4 t ((i + 1) * 64) → y ≤ key → false ≡ (rising (record_keys (records t g)) && sound_records (records t g))
-  falls l ey q = sym (fall t g i e.requires before-end e.get-r.ensures e.record_sound-ok.ensures l ey q) ∙ undecided
-
-  -- it is larger
-  rises : i + 1 < g → {y : ℕ} → y ≡ number_at 4 t ((i + 1) * 64) → key < y → from t g (i + 1) ≡ (rising (record_keys (records t g)) && sound_records (records t g))
-  rises l ey q = sym (rise t g i e.requires before-end e.get-r.ensures e.record_sound-ok.ensures l ey (ap not e.if-not-ok.false) q) ∙ undecided
-
-  -- there is none
-  last-passes : g ≤ i + 1 → from t g (i + 1) ≡ (rising (record_keys (records t g)) && sound_records (records t g))
-  last-passes l = sym (last t g i e.requires before-end e.get-r.ensures e.record_sound-ok.ensures (ap not e.if-not-ok.false) l) ∙ undecided
-
 pub loop-i-init : goal.loop-i-init
-loop-i-init c = (zero-le, refl)
+loop-i-init c = refl
 
-pub returns-then-not-ok : goal.returns-then-not-ok
-returns-then-not-ok c =
+pub returns-then-not-record_sound : goal.returns-then-not-record_sound
+returns-then-not-record_sound c =
     let l = c.loop-i in
-    sym (stop c.args.t.now c.args.g l.i c.requires (omega arith) c.get-r.ensures c.record_sound-ok.ensures (ap not c.if-not-ok.true)) ∙ l.invariant.1
+    sym (stop c.args.t.now c.args.g l.i c.requires (omega arith) c.get-r.ensures c.record_sound.ensures (ap not c.if-not-record_sound.true)) ∙ l.invariant
 
-pub returns-then-u32_at-r : goal.returns-then-u32_at-r
-returns-then-u32_at-r c = falls (goal.at.returns-then-u32_at-r c).Else-not-ok (omega arith) c.u32_at.ensures c.if-u32_at-r.true
-
-pub loop-i-preserved-else-u32_at-r : goal.loop-i-preserved-else-u32_at-r
-loop-i-preserved-else-u32_at-r c = (omega arith, rises (goal.at.loop-i-preserved-else-u32_at-r c).Else-not-ok (omega arith) c.u32_at.ensures c.if-u32_at-r.false)
+pub returns-then-read-r : goal.returns-then-read-r
+returns-then-read-r c =
+    let l = c.loop-i in
+    sym (fall c.args.t.now c.args.g l.i c.requires (omega arith) c.get-r.ensures c.record_sound.ensures (omega arith) c.read.ensures c.if-read-r.true) ∙ l.invariant
 
 pub loop-i-preserved : goal.loop-i-preserved
-loop-i-preserved c = (omega arith, last-passes (goal.at.loop-i-preserved c).Else-not-ok (omega arith))
+loop-i-preserved c =
+    let l = c.loop-i in
+    let t = c.args.t.now in
+    elim c.if-next-g.branch [
+      | then-next-g+else-read-r w ↦ sym (rise t c.args.g l.i c.requires (omega arith) c.get-r.ensures c.record_sound.ensures (omega arith) w.read.ensures (ap not c.if-not-record_sound.false) w.if-read-r.false) ∙ l.invariant
+      | else-next-g w ↦ sym (last t c.args.g l.i c.requires (omega arith) c.get-r.ensures c.record_sound.ensures (ap not c.if-not-record_sound.false) (omega arith)) ∙ l.invariant
+    ]
 
 pub returns : goal.returns
 unfolding sound_records
@@ -114,4 +87,4 @@ returns c =
     let l = c.loop-i in
     let rs = records a.t.now a.g in
     sym (ap₂ (λ (x y : Bool). x && y) (rising_last (record_keys rs) l.i (omega (arith, length-keys a.t.now a.g)))
-    (ap sound_records (drop_of_length-le rs {i = l.i} (omega (arith, length-cells 64 decode a.g a.t.now))))) ∙ l.invariant.1
+    (ap sound_records (drop_of_length-le rs {i = l.i} (omega (arith, length-cells 64 decode a.g a.t.now))))) ∙ l.invariant

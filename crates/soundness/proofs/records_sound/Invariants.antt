@@ -1,4 +1,4 @@
-use Prim.Native.Nat.{ℕ, ◌-◌, ◌≤◌}
+use Prim.Native.Nat.{ℕ}
 use mathlib.Core.Path.{◌≡◌}
 use mathlib.Core.Bool.{Bool, ◌&&◌}
 use mathlib.Core.List.{List}
@@ -13,7 +13,4 @@ abbrev from : List ℕ → ℕ → ℕ → Bool
 from s g i = rising (drop i (record_keys (records s g))) && sound_records (drop i (records s g))
 
 abbrev pub invariant-loop-i : goal.invariant-loop-i
-invariant-loop-i l = (l.i ≤ l.g) × (from l.t l.g l.i ≡ (rising (record_keys (records l.t l.g)) && sound_records (records l.t l.g)))
-
-abbrev pub decreases-loop-i : goal.decreases-loop-i
-decreases-loop-i l = l.g - l.i
+invariant-loop-i l = from l.t l.g l.i ≡ (rising (record_keys (records l.t l.g)) && sound_records (records l.t l.g))

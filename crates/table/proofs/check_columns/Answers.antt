@@ -13,7 +13,7 @@ use Rattle.table.specs.Calls.{column_grounds, column_outcome}
 use Rattle.table.proofs.check_columns.Goals as goal
 use mathlib.Core.Path.{ap}
 use mathlib.Core.Bool.{not}
-use Rattle.table.proofs.check_columns.Goals.{After-any_not_finite, Else-not-columns_fit, Else-not-is_sound, Else-work_len-table, Start}
+use Rattle.table.proofs.check_columns.Goals.{After-any_not_finite, Else-not-fit, Else-not-is_sound, Else-work_len-table, Start}
 
 -- what each test that was passed says
 module _ (c : Else-not-is_sound) where
@@ -23,20 +23,20 @@ module _ (c : Else-not-is_sound) where
 long-here : (c : Else-work_len-table) → ltb c.args.work_len (length c.args.table.now) ≡ false
 long-here c = le-ltb c.args.work_len (length c.args.table.now) c.if-work_len-table.false
 
-fit-here : (c : Else-not-columns_fit) → columns_fit c.args.kind c.args.keys.now c.args.values.now ≡ true
-fit-here c = sym c.columns_fit.ensures ∙ not-false c.columns_fit.result (ap not c.if-not-columns_fit.false)
+fit-here : (c : Else-not-fit) → columns_fit c.args.columns.kind c.args.columns.keys.now c.args.columns.values.now ≡ true
+fit-here c = sym c.fit.ensures ∙ not-false c.fit.result (ap not c.if-not-fit.false)
 
 -- with these three passed the rows decide
 last-decides : (c : After-any_not_finite) → let a = c.args in
-    column_outcome a.kind a.table.now a.g a.keys.now a.values.now a.work_len ≡ outcome (ground 10 c.any_not_finite.result ∷ []) tt
+    column_outcome a.columns.kind a.table.now a.g a.columns.keys.now a.columns.values.now a.work_len ≡ outcome (ground 10 c.any_not_finite.result ∷ []) tt
 unfolding column_grounds
 last-decides c =
     let a = c.args in
     rw (
       (sym c.is_sound.ensures ∙ not-false c.is_sound.result (ap not c.if-not-is_sound.false)),
       (le-ltb c.args.work_len (length c.args.table.now) c.if-work_len-table.false),
-      (sym c.columns_fit.ensures ∙ not-false c.columns_fit.result (ap not c.if-not-columns_fit.false)),
-      any_bits a.kind a.keys.now a.values.now ((sym c.columns_fit.ensures ∙ not-false c.columns_fit.result (ap not c.if-not-columns_fit.false))),
+      (sym c.fit.ensures ∙ not-false c.fit.result (ap not c.if-not-fit.false)),
+      any_bits a.columns.kind a.columns.keys.now a.columns.values.now ((sym c.fit.ensures ∙ not-false c.fit.result (ap not c.if-not-fit.false))),
       ← c.any_not_finite.ensures,
     )
     refl
@@ -51,10 +51,10 @@ returns-then-work_len-table c =
     let a = c.args in
     rw (sound_here (goal.at.returns-then-work_len-table c).Else-not-is_sound, lt-ltb a.work_len (length a.table.now) c.if-work_len-table.true) refl
 
-pub returns-then-not-columns_fit : goal.returns-then-not-columns_fit
+pub returns-then-not-fit : goal.returns-then-not-fit
 unfolding column_grounds
-returns-then-not-columns_fit c =
-    rw (sound_here (goal.at.returns-then-not-columns_fit c).Else-not-is_sound, long-here (goal.at.returns-then-not-columns_fit c).Else-work_len-table, ← c.columns_fit.ensures, not-true c.columns_fit.result (ap not c.if-not-columns_fit.true)) refl
+returns-then-not-fit c =
+    rw (sound_here (goal.at.returns-then-not-fit c).Else-not-is_sound, long-here (goal.at.returns-then-not-fit c).Else-work_len-table, ← c.fit.ensures, not-true c.fit.result (ap not c.if-not-fit.true)) refl
 
 pub returns-then-any_not_finite : goal.returns-then-any_not_finite
 returns-then-any_not_finite c = sym (last-decides (goal.at.returns-then-any_not_finite c).After-any_not_finite ∙ rw c.if-any_not_finite.true refl)

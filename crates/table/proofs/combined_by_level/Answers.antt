@@ -6,16 +6,16 @@ use Rattle.level.specs.declared.SplitTotal.{SplitTotal}
 use Rattle.level.specs.Level.{below}
 use Rattle.level.specs.Carry.{split_of}
 use Rattle.record.specs.declared.Record.{Record}
+use Rattle.soundness.specs.declared.sound.SoundRecord.{SoundRecord}
 use Rattle.record.specs.Section.{meaning, record_of}
 use Rattle.record.proofs.Parts.{sound_record_parts}
 use Rattle.table.specs.Combine.{combine, both_at}
 use Rattle.table.proofs.combined_by_level.Goals as goal
-use Rattle.table.proofs.combined_by_level.Goals.{Start}
 
-top_within : (c : Start) → max c.args.a.top c.args.b.top ≤ 52
-top_within c =
-    let p = sound_record_parts c.args.a c.requires.t in
-    let q = sound_record_parts c.args.b c.requires.t_2 in
+top_within : (a b : SoundRecord) → max a.raw.top b.raw.top ≤ 52
+top_within a b =
+    let p = sound_record_parts a.raw a.sound in
+    let q = sound_record_parts b.raw b.sound in
     omega (arith, p.top, q.top)
 
 -- the fields in the code's order; each equation is asked of its own call
@@ -31,14 +31,14 @@ unfolding combine
 joined a b e z h m l = rw (h, m, l, e, z)
 
 pub total_below-requires : goal.total_below-requires
-total_below-requires c = record { t_bound = omega (arith, top_within (goal.at.total_below-requires c).Start, c.larger-t.ensures); t = c.requires.t; t_2 = c.requires.t_2 }
+total_below-requires c = omega (arith, top_within c.args.a c.args.b, c.max-t.ensures)
 
 pub total_below-requires-2 : goal.total_below-requires-2
-total_below-requires-2 c = record { t_bound = omega (arith, top_within (goal.at.total_below-requires-2 c).Start, c.larger-t.ensures); t = c.requires.t; t_2 = c.requires.t_2 }
+total_below-requires-2 c = omega (arith, top_within c.args.a c.args.b, c.max-t.ensures)
 
 pub total_below-requires-3 : goal.total_below-requires-3
-total_below-requires-3 c = record { t_bound = omega (arith, top_within (goal.at.total_below-requires-3 c).Start, c.larger-t.ensures); t = c.requires.t; t_2 = c.requires.t_2 }
+total_below-requires-3 c = omega (arith, top_within c.args.a c.args.b, c.max-t.ensures)
 
 pub returns : goal.returns
 returns c =
-    joined c.args.a c.args.b c.larger-t.ensures c.smaller.ensures c.total_below.ensures c.total_below-2.ensures c.total_below-3.ensures
+    joined c.args.a.raw c.args.b.raw c.max-t.ensures c.min.ensures c.total_below.ensures c.total_below-2.ensures c.total_below-3.ensures

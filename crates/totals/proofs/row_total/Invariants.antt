@@ -1,12 +1,13 @@
-use Prim.Native.Nat.{◌+◌, ◌-◌, ◌≤◌}
+use Prim.Native.Nat.{◌+◌, ◌*◌, ◌≤◌}
 use mathlib.Core.Path.{◌≡◌}
 use lib.ListN.{drop}
 use Rattle.record.specs.Section.{sections}
+use Rattle.table.specs.Calls.{most_rows}
 use Rattle.totals.specs.Totals.{row_total}
 use Rattle.totals.proofs.row_total.Given as goal
 
 abbrev pub invariant-loop-i : goal.invariant-loop-i
-invariant-loop-i l = (l.count + row_total (drop l.i (sections l.table l.g)) ≡ row_total (sections l.table l.g)) × (l.i ≤ l.g)
-
-abbrev pub decreases-loop-i : goal.decreases-loop-i
-decreases-loop-i l = l.g - l.i
+invariant-loop-i l = record {
+  added_up : l.count + row_total (drop l.i (sections l.t.bytes.now l.t.groups)) ≡ row_total (sections l.t.bytes.now l.t.groups);
+  few_rows : l.count ≤ l.i * most_rows;
+}

@@ -1,2 +1,0 @@
--- What the steps of reading promise each other.
-pub mod Input
