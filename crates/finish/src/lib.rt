@@ -160,7 +160,7 @@ fn digits_below_one(exponent: u64) -> u64
     ensures with_exponent { result + (exponent - 1) ≡ 1074 }
     ensures nonzero { 0 < result }
 {
-    if exponent == 0 { 1074 } else { 1075 - exponent }
+    1075 - exponent.max(1)
 }
 
 // The figure of a sign and a size, if it is in range: the largest size is i32's largest number.

@@ -126,11 +126,7 @@ fn top_level(bits: u64) -> u64
     if e != 0 {
         return any_top(e);
     }
-    if fraction_field(bits) < LEVEL_BOUND {
-        0
-    } else {
-        1
-    }
+    u64::from(LEVEL_BOUND <= fraction_field(bits))
 }
 
 // The power of two that the significand's last digit counts.
@@ -213,18 +209,10 @@ fn cut_at(x: u64, d: u64) -> Cut
 {
     let units = nearest(x, d);
     let whole = units << d;
-    if x < whole {
-        Cut {
-            units,
-            rest: whole - x,
-            rounded_up: true,
-        }
-    } else {
-        Cut {
-            units,
-            rest: x - whole,
-            rounded_up: false,
-        }
+    Cut {
+        units,
+        rest: x.abs_diff(whole),
+        rounded_up: x < whole,
     }
 }
 

@@ -85,11 +85,7 @@ pub fn round_by(q: u64, rest: u64, half: u64, tie_up: bool) -> u64
     requires { (q < 2 ^ 63) × (rest < 2 ^ 63) }
     ensures { result ≡ rounded tie_up q (compare rest half) }
 {
-    if rest + u64::from(tie_up) > half {
-        q + 1
-    } else {
-        q
-    }
+    q + u64::from(rest + u64::from(tie_up) > half)
 }
 
 // The side of n, to which a quotient q with this rest was rounded.
@@ -238,7 +234,7 @@ impl U160 {
     {
         let a = self.limbs;
         let rest = a[2] % (1 << 27) * 2;
-        if a[1] + a[0] > 0 { rest + 1 } else { rest }
+        rest + u64::from(a[1] + a[0] > 0)
     }
 
     // The 53 leading digits of the 160, to the nearest number, an exact half to the even one.

@@ -14,6 +14,7 @@ use codec::Field;
 use level::{CARRY_BASE, HIGHEST_POWER, LEVEL_BOUND, SplitTotal};
 use record::Record;
 pub use sound::{SoundRecord, SoundTable};
+use std::cmp::Ordering;
 
 // Whether k * 2^50 + s is at most count * 2^39: neither side need fit 64 bits. 2^50 is 2,048 times 2^39.
 fn at_most(k: u64, s: u64, count: u32) -> bool
@@ -21,13 +22,11 @@ fn at_most(k: u64, s: u64, count: u32) -> bool
     ensures { result ≡ leb (k * carry_base + s) (count * level_bound) }
 {
     let q = (count / 2048) as u64;
-    if k < q {
-        return true;
+    match k.cmp(&q) {
+        Ordering::Less => true,
+        Ordering::Equal => s <= ((count % 2048) as u64) * LEVEL_BOUND,
+        Ordering::Greater => false,
     }
-    if q < k {
-        return false;
-    }
-    s <= ((count % 2048) as u64) * LEVEL_BOUND
 }
 
 // Whether a total is split as it is kept, and no larger than so many rows allow.

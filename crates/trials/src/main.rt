@@ -19,36 +19,90 @@ fn with_field(x: u64, field: u64) -> u64 {
     (x & 0x800FFFFFFFFFFFFF) | (field << 52)
 }
 
-// The row that x makes in a set of this kind: fields close together, any bits, subnormals, exact halves of a level's unit, small lengths, the largest doubles.
-fn row(x: u64, kind: u64) -> u64 {
-    match kind & 15 {
-        0 => x,
-        1 => with_field(x & 0x800000FFFFFFFFFF, 0),
-        2 => with_field(x, (x >> 53) & 1),
-        3 => with_field(x & 0x800E000000000000, 28 + 40 * ((x >> 16) % 51)),
-        4 => with_field(x & 0x800FF00000000000, 1020 + (x >> 8) % 8),
-        5 => with_field(x, 1030 + (x >> 8) % 32),
-        6 => with_field(x, 2043 + (x >> 8) % 4 + ((x >> 12) % 64) / 63),
-        _ => with_field(x, ((kind >> 8) & 0x7C0) | ((x >> 8) & 0x3F)),
+// The kinds of rows; those of a set are of one kind.
+#[derive(Clone, Copy)]
+enum RowKind {
+    // Any bits.
+    Any,
+    // Small subnormals.
+    Subnormal,
+    // Subnormals and the least normal doubles.
+    Least,
+    // Exact halves of a level's unit.
+    Half,
+    // Small lengths, of few bits.
+    SmallLength,
+    // Large lengths.
+    LargeLength,
+    // The largest doubles; now and then none that is finite.
+    Largest,
+    // Exponent fields close together, from this one on.
+    Close(u64),
+}
+
+// The kind that a number stands for.
+impl From<u64> for RowKind {
+    fn from(number: u64) -> RowKind {
+        match number & 15 {
+            0 => RowKind::Any,
+            1 => RowKind::Subnormal,
+            2 => RowKind::Least,
+            3 => RowKind::Half,
+            4 => RowKind::SmallLength,
+            5 => RowKind::LargeLength,
+            6 => RowKind::Largest,
+            _ => RowKind::Close((number >> 8) & 0x7C0),
+        }
     }
 }
 
-// n random rows in the columns; some take back the row before them. The generator's next state.
-fn fill(keys: &mut [u8], values: &mut [u8], n: usize, state: u64, kind: u64) -> u64 {
-    let mut x = state;
+// The generator's number, and the kind of the rows that it makes.
+#[derive(Clone, Copy)]
+struct Draw {
+    x: u64,
+    kind: RowKind,
+}
+
+impl Draw {
+    // The next draw, of the same kind.
+    fn next(self) -> Draw {
+        Draw {
+            x: next(self.x),
+            ..self
+        }
+    }
+
+    // The row of a draw, as a double's bits.
+    fn row(self) -> u64 {
+        let x = self.x;
+        match self.kind {
+            RowKind::Any => x,
+            RowKind::Subnormal => with_field(x & 0x800000FFFFFFFFFF, 0),
+            RowKind::Least => with_field(x, (x >> 53) & 1),
+            RowKind::Half => with_field(x & 0x800E000000000000, 28 + 40 * ((x >> 16) % 51)),
+            RowKind::SmallLength => with_field(x & 0x800FF00000000000, 1020 + (x >> 8) % 8),
+            RowKind::LargeLength => with_field(x, 1030 + (x >> 8) % 32),
+            RowKind::Largest => with_field(x, 2043 + (x >> 8) % 4 + ((x >> 12) % 64) / 63),
+            RowKind::Close(field) => with_field(x, field | ((x >> 8) & 0x3F)),
+        }
+    }
+}
+
+// n random rows in the columns; some take back the row before them.
+fn fill(keys: &mut [u8], values: &mut [u8], n: usize, start: Draw) {
+    let mut draw = start;
     let mut bits: u64 = 0;
     let cells = keys.as_chunks_mut::<4>().0.iter_mut();
     for (key, value) in cells.zip(values.as_chunks_mut::<8>().0).take(n) {
-        x = next(x);
-        bits = if x & 48 == 0 {
+        draw = draw.next();
+        bits = if draw.x & 48 == 0 {
             bits ^ SIGN
         } else {
-            row(x, kind)
+            draw.row()
         };
-        *key = (((x >> 40) % 16) as u32).to_le_bytes();
+        *key = (((draw.x >> 40) % 16) as u32).to_le_bytes();
         *value = bits.to_le_bytes();
     }
-    x
 }
 
 // Rows of the double 1 all over the columns, each a section further by step.
@@ -82,66 +136,116 @@ fn digest(t: &[u8]) -> u64 {
 
 // The first n bytes of a slice, or nothing where it is shorter.
 fn part(s: &[u8], n: usize) -> &[u8] {
-    if n <= s.len() { &s[0..n] } else { &s[0..0] }
+    s.get(..n).unwrap_or_default()
 }
 
-// The group count after a call that answered r.
-fn groups_after(r: i64, g: u64) -> u64 {
-    u64::try_from(r).unwrap_or(g)
+// Random rows in columns that have room for more.
+#[derive(Drop)]
+struct RandomRows {
+    keys: [u8; 128],
+    values: [u8; 256],
+    count: u32,
 }
 
-// n random rows added to a table; now and then with a wrong group count, a short work buffer, or a column too short.
-fn add_random(t: &mut [u8], g: u64, n: usize, x: u64, kind: u64) -> i64
-    requires { n < 32 }
-{
-    let mut keys = [0u8; 128];
-    let mut values = [0u8; 256];
-    fill(&mut keys, &mut values, n, x ^ 0x9E3779B97F4A7C15, kind);
-    let mut work = [7u8; 640];
-    let (groups, value_bytes, room) = match (x >> 20) & 15 {
-        0 => (g.wrapping_add(1), n * 8, 640),
-        1 => (g, n * 8, 256),
-        2 => (g, n * 8 + 4, 640),
-        _ => (g, n * 8, 640),
-    };
-    exports::girth_add(
-        t,
-        groups,
-        part(&keys, n * 4),
-        part(&values, value_bytes),
-        8,
-        &mut work[..room],
-    )
-}
-
-// The first n rows of such an add, or all of them, taken out of a table.
-fn remove_random(t: &mut [u8], g: u64, n: usize, x: u64, kind: u64) -> i64
-    requires { n < 32 }
-{
-    let mut keys = [0u8; 128];
-    let mut values = [0u8; 256];
-    fill(&mut keys, &mut values, n, x ^ 0x9E3779B97F4A7C15, kind);
-    let mut work = [7u8; 640];
-    exports::girth_remove(t, g, part(&keys, n * 4), part(&values, n * 8), 8, &mut work)
-}
-
-// One call on a table: an add, or a merge of the other table.
-fn call(t: &mut [u8], g: u64, other: &[u8], h: u64, x: u64, kind: u64) -> i64 {
-    if x & 28 == 0 {
-        return exports::girth_merge(t, g, other, h);
+impl RandomRows {
+    // The first rows that follow a draw, as many as count says.
+    fn new(count: u32, draw: Draw) -> RandomRows {
+        let mut keys = [0u8; 128];
+        let mut values = [0u8; 256];
+        let start = Draw {
+            x: draw.x ^ 0x9E3779B97F4A7C15,
+            ..draw
+        };
+        fill(&mut keys, &mut values, count as usize, start);
+        RandomRows {
+            keys,
+            values,
+            count,
+        }
     }
-    add_random(t, g, ((x >> 8) % 32) as usize, x, kind)
+
+    // The sections' column.
+    fn keys(&self) -> &[u8] {
+        part(&self.keys, self.count as usize * 4)
+    }
+
+    // The values' column, longer by a number of bytes.
+    fn values(&self, more: u32) -> &[u8] {
+        part(&self.values, self.count as usize * 8 + more as usize)
+    }
 }
 
-// The same, with its answer said; the group count after it.
-fn step(rt: &HostRuntime, t: &mut [u8], g: u64, other: &[u8], h: u64, x: u64, kind: u64) -> u64 {
-    let r = call(t, g, other, h, x, kind);
-    print(rt, r.cast_unsigned());
-    groups_after(r, g)
+// A table: its bytes as they are lent, and its group count.
+#[derive(Drop)]
+struct Table<'a> {
+    bytes: &'a mut [u8],
+    groups: u64,
+}
+
+impl Table<'_> {
+    // Keeps the group count that a call answered; a refusal changes none.
+    fn keep(&mut self, answer: i64) {
+        self.groups = u64::try_from(answer).unwrap_or(self.groups);
+    }
+
+    // The other table merged into this one.
+    fn merge(&mut self, other: &Table<'_>) -> i64 {
+        exports::girth_merge(self.bytes, self.groups, other.bytes, other.groups)
+    }
+
+    // n random rows added; now and then with a wrong group count, a short work buffer, or a column too short.
+    fn add_random(&mut self, n: u32, draw: Draw) -> i64 {
+        let rows = RandomRows::new(n, draw);
+        let mut work = [7u8; 640];
+        let (groups, more, room) = match (draw.x >> 20) & 15 {
+            0 => (self.groups.wrapping_add(1), 0, 640),
+            1 => (self.groups, 0, 256),
+            2 => (self.groups, 4, 640),
+            _ => (self.groups, 0, 640),
+        };
+        exports::girth_add(
+            self.bytes,
+            groups,
+            rows.keys(),
+            rows.values(more),
+            8,
+            &mut work[..room],
+        )
+    }
+
+    // The first n rows of such an add, or all of them, taken out.
+    fn remove_random(&mut self, n: u32, draw: Draw) -> i64 {
+        let rows = RandomRows::new(n, draw);
+        let mut work = [7u8; 640];
+        exports::girth_remove(
+            self.bytes,
+            self.groups,
+            rows.keys(),
+            rows.values(0),
+            8,
+            &mut work,
+        )
+    }
+
+    // One call: an add, or a merge of the other table.
+    fn call(&mut self, other: &Table<'_>, draw: Draw) -> i64 {
+        if draw.x & 28 == 0 {
+            return self.merge(other);
+        }
+        self.add_random(((draw.x >> 8) % 32) as u32, draw)
+    }
+
+    // Says what a call answered, and keeps the group count in it.
+    fn print_and_keep(&mut self, rt: &HostRuntime, answer: i64) {
+        print(rt, answer.cast_unsigned());
+        self.keep(answer);
+    }
 }
 
 // Section, answer, row count and side of the line, sum and its side, mill figure, whether it is exact; nothing of an absent section below 16.
-fn print_section(rt: &HostRuntime, t: &[u8], g: u64, key: u32) {
+fn print_section(rt: &HostRuntime, table: &Table<'_>, key: u32) {
+    let t = &*table.bytes;
+    let g = table.groups;
     let mut count: u64 = 9;
     let mut bits: u64 = 9;
     let mut figure: i64 = 9;
@@ -163,11 +267,11 @@ fn print_section(rt: &HostRuntime, t: &[u8], g: u64, key: u32) {
     end_line(rt);
 }
 
-// The answer of the totals for g records, the sections and the rows.
-fn print_totals(rt: &HostRuntime, t: &[u8], g: u64) {
+// The answer of the totals for g records of a table, the sections and the rows.
+fn print_totals(rt: &HostRuntime, t: &Table<'_>, g: u64) {
     let mut sections: u64 = 9;
     let mut rows: u64 = 9;
-    let r = exports::girth_totals(t, g, &mut sections, &mut rows);
+    let r = exports::girth_totals(t.bytes, g, &mut sections, &mut rows);
     print(rt, r.cast_unsigned());
     print(rt, sections);
     print(rt, rows);
@@ -180,83 +284,87 @@ fn print_load(rt: &HostRuntime, file: &[u8], t: &mut [u8]) {
 }
 
 // What a save says and leaves in an output with room for 6 groups, then the load of the file that was written (of no bytes where it is refused), into a table with room for 5.
-fn print_save(rt: &HostRuntime, t: &[u8], g: u64) {
+fn print_save(rt: &HostRuntime, t: &Table<'_>) {
     let mut out = [0xC3u8; 400];
     let mut other = [0x5Au8; 320];
-    let r = exports::girth_save(t, g, &mut out);
+    let r = exports::girth_save(t.bytes, t.groups, &mut out);
     print(rt, r.cast_unsigned());
     print(rt, digest(&out));
     print_load(rt, part(&out, r.cast_unsigned() as usize), &mut other);
 }
 
 // Group count and digest of a table, its totals, those for a record too many, how it is saved and loaded, then its sections.
-fn print_table(rt: &HostRuntime, t: &[u8], g: u64) {
-    print(rt, g);
-    print(rt, digest(t));
-    print_totals(rt, t, g);
-    print_totals(rt, t, g.wrapping_add(1));
-    print_save(rt, t, g);
+fn print_table(rt: &HostRuntime, t: &Table<'_>) {
+    print(rt, t.groups);
+    print(rt, digest(t.bytes));
+    print_totals(rt, t, t.groups);
+    print_totals(rt, t, t.groups.wrapping_add(1));
+    print_save(rt, t);
     end_line(rt);
     for key in 0..17 {
-        print_section(rt, t, g, key);
+        print_section(rt, t, key);
     }
 }
 
 // What a removal says and leaves.
-fn print_removal(rt: &HostRuntime, t: &mut [u8], g: u64, n: usize, x: u64, kind: u64)
-    requires { n < 32 }
-{
-    print(rt, remove_random(t, g, n, x, kind).cast_unsigned());
-    print(rt, digest(t));
+fn print_removal(rt: &HostRuntime, t: &mut Table<'_>, n: u32, draw: Draw) {
+    print(rt, t.remove_random(n, draw).cast_unsigned());
+    print(rt, digest(t.bytes));
     end_line(rt);
 }
 
 // Twelve calls on two tables, then what they hold; the second one without the rows of the last call, and the first one without the first of these.
-fn run_calls(rt: &HostRuntime, a: &mut [u8], b: &mut [u8], state: u64, kind: u64) {
-    let mut g: u64 = 0;
-    let mut h: u64 = 0;
-    let mut x = state;
+fn run_calls(rt: &HostRuntime, a: &mut Table<'_>, b: &mut Table<'_>, start: Draw) {
+    let mut draw = start;
     for _ in 0..6 {
-        x = next(x);
-        g = step(rt, a, g, b, h, x, kind);
-        x = next(x);
-        h = step(rt, b, h, a, g, x, kind);
+        draw = draw.next();
+        let r = a.call(b, draw);
+        a.print_and_keep(rt, r);
+        draw = draw.next();
+        let q = b.call(a, draw);
+        b.print_and_keep(rt, q);
     }
     end_line(rt);
-    print_table(rt, a, g);
-    print_table(rt, b, h);
-    print_removal(rt, b, h, ((x >> 8) % 32) as usize, x, kind);
-    print_removal(rt, a, g, ((x >> 8) % 4) as usize, x, kind);
-}
-
-// A set of calls on two tables that start empty.
-fn run_set(rt: &HostRuntime, state: u64, kind: u64) {
-    let mut a = [0x5Au8; 640];
-    let mut b = [0x5Au8; 384];
-    run_calls(rt, &mut a, &mut b, state, kind);
+    print_table(rt, a);
+    print_table(rt, b);
+    print_removal(rt, b, ((draw.x >> 8) % 32) as u32, draw);
+    print_removal(rt, a, ((draw.x >> 8) % 4) as u32, draw);
 }
 
 // Each table merged into the other in turn, until the row count is full.
-fn run_merges(rt: &HostRuntime, a: &mut [u8], b: &mut [u8]) {
-    let mut g = groups_after(add_random(a, 0, 9, 0x123456789, 4), 0);
-    let mut h: u64 = 0;
+fn run_merges(rt: &HostRuntime, a: &mut Table<'_>, b: &mut Table<'_>) {
+    let draw = Draw {
+        x: 0x123456789,
+        kind: RowKind::SmallLength,
+    };
+    let answer = a.add_random(9, draw);
+    a.keep(answer);
     for _ in 0..24 {
-        let r = exports::girth_merge(b, h, a, g);
-        print(rt, r.cast_unsigned());
-        h = groups_after(r, h);
-        let q = exports::girth_merge(a, g, b, h);
-        print(rt, q.cast_unsigned());
-        g = groups_after(q, g);
+        let r = b.merge(a);
+        b.print_and_keep(rt, r);
+        let q = a.merge(b);
+        a.print_and_keep(rt, q);
     }
     end_line(rt);
-    print_table(rt, a, g);
-    print_table(rt, b, h);
+    print_table(rt, a);
+    print_table(rt, b);
 }
 
-fn run_doubling(rt: &HostRuntime) {
-    let mut a = [0x5Au8; 640];
-    let mut b = [0x5Au8; 384];
-    run_merges(rt, &mut a, &mut b);
+// Runs calls on two tables that start empty.
+fn on_two_tables<F: FnOnce(&mut Table<'_>, &mut Table<'_>)>(run: F)
+    requires { (x : _) (y : _) → F.pre run x y }
+{
+    let mut first = [0x5Au8; 640];
+    let mut second = [0x5Au8; 384];
+    let mut a = Table {
+        bytes: &mut first,
+        groups: 0,
+    };
+    let mut b = Table {
+        bytes: &mut second,
+        groups: 0,
+    };
+    run(&mut a, &mut b);
 }
 
 // The first 64 bytes of a table, as words.
@@ -268,14 +376,14 @@ fn print_record(rt: &HostRuntime, t: &[u8]) {
 }
 
 // 15 adds of the same columns, then one of their first row.
-fn add_often(rt: &HostRuntime, t: &mut [u8], work: &mut [u8], keys: &[u8], values: &[u8]) {
-    let mut g: u64 = 0;
+fn add_often(rt: &HostRuntime, t: &mut Table<'_>, work: &mut [u8], keys: &[u8], values: &[u8]) {
     for _ in 0..15 {
-        g = groups_after(exports::girth_add(t, g, keys, values, 8, work), g);
+        let r = exports::girth_add(t.bytes, t.groups, keys, values, 8, work);
+        t.keep(r);
     }
-    print_record(rt, t);
-    exports::girth_add(t, g, part(keys, 4), part(values, 8), 8, work);
-    print_record(rt, t);
+    print_record(rt, t.bytes);
+    exports::girth_add(t.bytes, t.groups, part(keys, 4), part(values, 8), 8, work);
+    print_record(rt, t.bytes);
 }
 
 // 65,535 rows of 1, then one more.
@@ -283,8 +391,12 @@ fn run_ones(rt: &HostRuntime) {
     let mut keys = [0u8; 17476];
     let mut values = [0u8; 34952];
     fill_ones(&mut keys, &mut values, 0);
-    let mut t = [0u8; 64];
+    let mut bytes = [0u8; 64];
     let mut work = [0u8; 64];
+    let mut t = Table {
+        bytes: &mut bytes,
+        groups: 0,
+    };
     add_often(rt, &mut t, &mut work, &keys, &values);
 }
 
@@ -387,13 +499,17 @@ fn run_full(rt: &HostRuntime) {
 
 fn main(rt: HostRuntime) {
     run_ones(&rt);
-    run_doubling(&rt);
+    on_two_tables(|a, b| run_merges(&rt, a, b));
     run_files(&rt);
     run_saved_files(&rt);
     run_full(&rt);
     let mut x: u64 = 88172645463325252;
     for i in 0..320u64 {
         x = next(x);
-        run_set(&rt, x, (x & 0xFFFFFFFFFFFFFFF0) | (i & 15));
+        let draw = Draw {
+            x,
+            kind: RowKind::from((x & 0xFFFFFFFFFFFFFFF0) | (i & 15)),
+        };
+        on_two_tables(|a, b| run_calls(&rt, a, b, draw));
     }
 }

@@ -1,5 +1,12 @@
 -- `top_level` is the top: by the constant table for the fields 1 to 2,046, 52 for the field 2,047, and by the fraction for a subnormal.
-use mathlib.Core.Path.{sym, ◌∙◌}
+use Prim.Native.Nat.{ℕ, ◌<◌, ◌≤◌}
+use mathlib.Core.Path.{◌≡◌, sym, ◌∙◌}
+use native.Mathlib.Decide.{dec_le}
+use borrow.Author.Tests.{le-leb, lt-leb}
+use lib.Dec.{leb}
+use mir.Val.{bool_byte}
+use Rattle.level.specs.Double.{exponent_field, fraction}
+use Rattle.level.specs.Level.{top, level_bound}
 use native.Mathlib.Omega.{arith}
 use Rattle.level.proofs.Top.{top_normal, top_small, top_subnormal}
 use borrow.Author.Rules.{rules}
@@ -17,8 +24,13 @@ returns-then-e-eq2047 c = sym (top_normal c.args.bits (λ e. omega (arith, e)) �
 pub returns-then-e-ne0 : goal.returns-then-e-ne0
 returns-then-e-ne0 c = c.any_top.ensures c.args.bits (search rules)
 
-pub returns-else-fraction_field-lt-LEVEL_BOUND : goal.returns-else-fraction_field-lt-LEVEL_BOUND
-returns-else-fraction_field-lt-LEVEL_BOUND c = sym (top_subnormal c.args.bits (omega arith) (omega arith))
+-- the number that the test of the fraction x is made
+subnormal : (b x : ℕ) → exponent_field b ≡ 0 → x ≡ fraction b → bool_byte (leb level_bound x) ≡ top b
+subnormal b x e f =
+    elim (dec_le level_bound x) [
+      | yes l ↦ rw (le-leb level_bound x l) (sym (top_subnormal b e (omega arith)))
+      | no l ↦ rw (lt-leb level_bound x (omega arith)) (sym (top_small b e (omega arith)))
+    ]
 
-pub returns-then-fraction_field-lt-LEVEL_BOUND : goal.returns-then-fraction_field-lt-LEVEL_BOUND
-returns-then-fraction_field-lt-LEVEL_BOUND c = sym (top_small c.args.bits (omega arith) (omega arith))
+pub returns : goal.returns
+returns c = c.from.ensures ∙ subnormal c.args.bits c.fraction_field.result (omega arith) c.fraction_field.ensures
