@@ -196,7 +196,7 @@ loaded s i f p q eo eb = (
 pub steps : (s : State) (c : Call) (x : Answer) (s' : State) → Called s c x s' → (answer s c ≡ x) × (step s c ≡ s')
 unfolding answer step ask_table
 steps s c x s' (by_add i κs a z e b p l) =
-    let kind = a.1.1.0.kind in let ks = a.1.1.0.keys.now in let vs = a.1.1.0.values.now in let len = length a.1.1.1.0.now in
+    let kind = a.1.1.1.1.0 in let ks = a.1.1.0.now in let vs = a.1.1.1.0.now in let len = length a.1.1.1.1.1.0.now in
     changed s i (λ t g. add_outcome kind t g ks vs len) (λ t g. add_leaves kind t g ks vs len) p l.0 l.1.0
 steps s c x s' (by_girth_add i kind κs a z e b k p l) =
     let t = a.0.now in let g = a.1.0 in let ks = a.1.1.0.now in let vs = a.1.1.1.0.now in let len = length a.1.1.1.1.1.0.now in

@@ -44,7 +44,7 @@ steps_any : (s : State) (c : AnyCall) (x : Answer) (s' : State) → CalledAny s 
 unfolding answer_any step_any
 steps_any s c x s' (by_other {c = d} p) = steps_older s d x s' p
 steps_any s c x s' (by_remove i κs a z e b p l) =
-    let kind = a.1.1.0.kind in let ks = a.1.1.0.keys.now in let vs = a.1.1.0.values.now in let len = length a.1.1.1.0.now in
+    let kind = a.1.1.1.1.0 in let ks = a.1.1.0.now in let vs = a.1.1.1.0.now in let len = length a.1.1.1.1.1.0.now in
     changed s i (λ t g. remove_outcome kind t g ks vs len) (λ t g. remove_leaves kind t g ks vs len) p l.0 l.1.0
 steps_any s c x s' (by_girth_remove i kind κs a z e b k p l) =
     let t = a.0.now in let g = a.1.0 in let ks = a.1.1.0.now in let vs = a.1.1.1.0.now in let len = length a.1.1.1.1.1.0.now in

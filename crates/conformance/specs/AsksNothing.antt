@@ -70,8 +70,8 @@ pub record AsksNothing : Type 1 where
   pub of_key_start : (κs : Lfts 1) (a : Dens κs key_start_kinds.ps) → key_start_reads.Asked κs a
   pub of_value_start : (κs : Lfts 1) (a : Dens κs value_start_kinds.ps) → value_start_reads.Asked κs a
   pub of_write : (κs : Lfts 3) (a : Dens κs write_kinds.ps) → write_reads.Asked κs a
-  pub of_add : (κs : Lfts 3) (a : Dens κs add_kinds.ps) → add_reads.Asked κs a
-  pub of_remove : (κs : Lfts 3) (a : Dens κs remove_kinds.ps) → remove_reads.Asked κs a
+  pub of_add : (κs : Lfts 4) (a : Dens κs add_kinds.ps) → add_reads.Asked κs a
+  pub of_remove : (κs : Lfts 4) (a : Dens κs remove_kinds.ps) → remove_reads.Asked κs a
   pub of_merge : (κs : Lfts 2) (a : Dens κs merge_kinds.ps) → merge_reads.Asked κs a
   pub of_sum : (κs : Lfts 1) (a : Dens κs sum_kinds.ps) → sum_reads.Asked κs a
   pub of_figure : (κs : Lfts 1) (a : Dens κs figure_kinds.ps) → figure_reads.Asked κs a

@@ -89,10 +89,10 @@ flag_said (negsuc n) = refused (suc n)
 
 -- in the state s the call answers x and leaves the state s'; a and e have what is lent and given in the order of the parameters, a at first and e at the end
 pub data Called (s : State) : Call → Answer → State → Type 1 where
-  -- table, group count, columns and work buffer; that the keys hold bytes is not said of a call's arguments
-  by_add : (i : ℕ) (κs : Lfts 3) (a : Dens κs add_kinds.ps) (z : (res_t add_kinds.r κs).Denot) (e : AtExit (ended_of 3 add_kinds.ps add_kinds.r) κs) (b : T (are_bytes a.1.1.0.keys.now))
+  -- table, group count, keys, values, their kind and work buffer; that the keys hold bytes is not said of a call's arguments
+  by_add : (i : ℕ) (κs : Lfts 4) (a : Dens κs add_kinds.ps) (z : (res_t add_kinds.r κs).Denot) (e : AtExit (ended_of 4 add_kinds.ps add_kinds.r) κs) (b : T (are_bytes a.1.1.0.now))
       → Lent (s.tables i) a.0.now a.1.0 → add_reads.Learnt κs a z e
-      → Called s (add i a.1.1.0.kind a.1.1.0.keys.now a.1.1.0.values.now b (length a.1.1.1.0.now)) (groups_are (outcome_of z)) (state_left s i (outcome_of z) e.0.now)
+      → Called s (add i a.1.1.1.1.0 a.1.1.0.now a.1.1.1.0.now b (length a.1.1.1.1.1.0.now)) (groups_are (outcome_of z)) (state_left s i (outcome_of z) e.0.now)
   -- the exported call is told the width of its values, which is that of a kind
   by_girth_add : (i : ℕ) (kind : Kind) (κs : Lfts 4) (a : Dens κs girth_add_kinds.ps) (z : (res_t girth_add_kinds.r κs).Denot) (e : AtExit (ended_of 4 girth_add_kinds.ps girth_add_kinds.r) κs) (b : T (are_bytes a.1.1.0.now))
       → kind_of_width a.1.1.1.1.0 ≡ some kind → Lent (s.tables i) a.0.now a.1.0 → girth_add_reads.Learnt κs a z e

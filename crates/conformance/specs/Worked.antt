@@ -54,7 +54,7 @@ pub record WorkedIs : Type 1 where
   -- every list of calls can be carried out
   pub possible : (s : State) (cs : List Call) → (xs : List Answer) × (s' : State) × Worked s cs xs s'
   -- an add leaves only zeros in its work buffer
-  pub buffer-cleared : (κs : Lfts 3) (a : Dens κs add_kinds.ps) (z : (res_t add_kinds.r κs).Denot) (e : AtExit (ended_of 3 add_kinds.ps add_kinds.r) κs) → add_reads.Learnt κs a z e
-      → e.1.1.1.0.now ≡ cleared a.1.1.1.0.now
+  pub buffer-cleared : (κs : Lfts 4) (a : Dens κs add_kinds.ps) (z : (res_t add_kinds.r κs).Denot) (e : AtExit (ended_of 4 add_kinds.ps add_kinds.r) κs) → add_reads.Learnt κs a z e
+      → e.1.1.1.1.1.0.now ≡ cleared a.1.1.1.1.1.0.now
   pub girth_buffer_cleared : (κs : Lfts 4) (a : Dens κs girth_add_kinds.ps) (z : (res_t girth_add_kinds.r κs).Denot) (e : AtExit (ended_of 4 girth_add_kinds.ps girth_add_kinds.r) κs)
       → girth_add_reads.Learnt κs a z e → e.1.1.1.1.1.0.now ≡ cleared a.1.1.1.1.1.0.now

@@ -34,10 +34,10 @@ use Rattle.conformance.specs.WorkedOlder.{CalledOlder}
 pub data CalledAny (s : State) : AnyCall → Answer → State → Type 1 where
   -- a call that removes nothing
   by_other : {c : OlderCall} {x : Answer} {s' : State} → CalledOlder s c x s' → CalledAny s (other c) x s'
-  -- table, group count, columns and work buffer; that the keys hold bytes is not said of a call's arguments
-  by_remove : (i : ℕ) (κs : Lfts 3) (a : Dens κs remove_kinds.ps) (z : (res_t remove_kinds.r κs).Denot) (e : AtExit (ended_of 3 remove_kinds.ps remove_kinds.r) κs) (b : T (are_bytes a.1.1.0.keys.now))
+  -- table, group count, keys, values, their kind and work buffer; that the keys hold bytes is not said of a call's arguments
+  by_remove : (i : ℕ) (κs : Lfts 4) (a : Dens κs remove_kinds.ps) (z : (res_t remove_kinds.r κs).Denot) (e : AtExit (ended_of 4 remove_kinds.ps remove_kinds.r) κs) (b : T (are_bytes a.1.1.0.now))
       → Lent (s.tables i) a.0.now a.1.0 → remove_reads.Learnt κs a z e
-      → CalledAny s (remove i a.1.1.0.kind a.1.1.0.keys.now a.1.1.0.values.now b (length a.1.1.1.0.now)) (groups_are (outcome_of z)) (state_left s i (outcome_of z) e.0.now)
+      → CalledAny s (remove i a.1.1.1.1.0 a.1.1.0.now a.1.1.1.0.now b (length a.1.1.1.1.1.0.now)) (groups_are (outcome_of z)) (state_left s i (outcome_of z) e.0.now)
   -- the exported call is told the width of its values, which is that of a kind
   by_girth_remove : (i : ℕ) (kind : Kind) (κs : Lfts 4) (a : Dens κs girth_remove_kinds.ps) (z : (res_t girth_remove_kinds.r κs).Denot) (e : AtExit (ended_of 4 girth_remove_kinds.ps girth_remove_kinds.r) κs) (b : T (are_bytes a.1.1.0.now))
       → kind_of_width a.1.1.1.1.0 ≡ some kind → Lent (s.tables i) a.0.now a.1.0 → girth_remove_reads.Learnt κs a z e
@@ -81,7 +81,7 @@ pub record WorkedRemovalsIs : Type 1 where
       → raises_top (sections_in (s.tables i)) (patch_sections kind ks vs) ≡ false → lowers_finest (sections_in (s.tables i)) (patch_sections kind ks vs) ≡ false
       → (x ≡ groups_are (accepted (s.tables i).groups)) × ((s''.tables i).groups ≡ (s.tables i).groups) × (used (s''.tables i) ≡ used (s.tables i))
   -- a removal leaves only zeros in its work buffer
-  pub removal_buffer_cleared : (κs : Lfts 3) (a : Dens κs remove_kinds.ps) (z : (res_t remove_kinds.r κs).Denot) (e : AtExit (ended_of 3 remove_kinds.ps remove_kinds.r) κs) → remove_reads.Learnt κs a z e
-      → e.1.1.1.0.now ≡ cleared a.1.1.1.0.now
+  pub removal_buffer_cleared : (κs : Lfts 4) (a : Dens κs remove_kinds.ps) (z : (res_t remove_kinds.r κs).Denot) (e : AtExit (ended_of 4 remove_kinds.ps remove_kinds.r) κs) → remove_reads.Learnt κs a z e
+      → e.1.1.1.1.1.0.now ≡ cleared a.1.1.1.1.1.0.now
   pub girth_removal_buffer_cleared : (κs : Lfts 4) (a : Dens κs girth_remove_kinds.ps) (z : (res_t girth_remove_kinds.r κs).Denot) (e : AtExit (ended_of 4 girth_remove_kinds.ps girth_remove_kinds.r) κs)
       → girth_remove_reads.Learnt κs a z e → e.1.1.1.1.1.0.now ≡ cleared a.1.1.1.1.1.0.now

@@ -21,7 +21,7 @@ ghost use Rattle.report.specs.Answer.{print_outcome, print_leaves};
 ghost use Rattle.exports.specs.Width.{kind_of_width, width_kind, no_kind_outcome, add_of_width, add_of_width_leaves, remove_of_width, remove_of_width_leaves};
 ghost use Rattle.exports.specs.Calls.{returned, returns_count, returns_zero, returns_flag, writes, double_bits};
 
-use columns::{Columns, Kind};
+use columns::Kind;
 use refusal::Refusal;
 
 // Minus a refusal's number.
@@ -82,12 +82,7 @@ fn refuse_unknown_width(table: &mut [u8], g: u64, work: &mut [u8]) -> i64
     ensures work { work.new ≡ cleared work.old }
 {
     let unfit = [0u8; 1];
-    let unfit_columns = Columns {
-        keys: &unfit,
-        values: &unfit,
-        kind: Kind::Double,
-    };
-    count_or_minus(add::add(table, g as usize, unfit_columns, work))
+    count_or_minus(add::add(table, g as usize, &unfit, &unfit, Kind::Double, work))
 }
 
 // Adds the rows of two columns to a table of g records, each value having so many bytes. The work buffer holds only zeros afterwards.
@@ -104,10 +99,7 @@ pub fn girth_add(
     ensures work { work.new ≡ cleared work.old }
 {
     match kind_of_width(value_width) {
-        Some(kind) => {
-            let added = Columns { keys, values, kind };
-            count_or_minus(add::add(table, g as usize, added, work))
-        }
+        Some(kind) => count_or_minus(add::add(table, g as usize, keys, values, kind, work)),
         None => refuse_unknown_width(table, g, work),
     }
 }
@@ -127,8 +119,7 @@ pub fn girth_remove(
 {
     match kind_of_width(value_width) {
         Some(kind) => {
-            let removed = Columns { keys, values, kind };
-            count_or_minus(remove::remove(table, g as usize, removed, work))
+            count_or_minus(remove::remove(table, g as usize, keys, values, kind, work))
         }
         None => refuse_unknown_width(table, g, work),
     }

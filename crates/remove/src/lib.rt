@@ -16,7 +16,7 @@ ghost use Rattle.remove.specs.Remaining.{without_at, without, without_if, remain
 ghost use Rattle.remove.specs.Calls.{patch_sections, remove_outcome, remove_leaves};
 ghost use Rattle.remove.specs.Steps.{Stands, compared_outcome, TakenOut};
 
-use columns::Columns;
+use columns::{Columns, Kind};
 use level::SplitTotal;
 use record::Record;
 use refusal::Refusal;
@@ -220,7 +220,14 @@ fn remove_checked(
     ensures answer { outcome_of result ≡ remove_outcome columns.entry.kind table.old g columns.entry.keys.now columns.entry.values.now (length work.old) }
     ensures content { table.new ≡ remove_leaves columns.entry.kind table.old g columns.entry.keys.now columns.entry.values.now (length work.old) }
 {
-    table::check_columns(table, g, columns, work.len())?;
+    table::check_columns(
+        table,
+        g,
+        columns.keys,
+        columns.values,
+        columns.kind,
+        work.len(),
+    )?;
     let too_many = overflow::any_overflow(SoundTable::known(work, 0), columns.keys);
     if too_many {
         Err(Refusal::TooFewRows)
@@ -229,17 +236,20 @@ fn remove_checked(
     }
 }
 
-// Removes the rows of the two columns: all of them, or none. The work buffer holds only zeros afterwards.
+// Removes the rows of the two columns, whose values are of a kind: all of them, or none. The work buffer holds only zeros afterwards.
 pub fn remove(
     table: &mut [u8],
     g: usize,
-    columns: Columns<'_>,
+    keys: &[u8],
+    values: &[u8],
+    kind: Kind,
     work: &mut [u8],
 ) -> Result<usize, Refusal>
-    ensures answer { outcome_of result ≡ remove_outcome columns.entry.kind table.old g columns.entry.keys.now columns.entry.values.now (length work.old) }
-    ensures content { table.new ≡ remove_leaves columns.entry.kind table.old g columns.entry.keys.now columns.entry.values.now (length work.old) }
+    ensures answer { outcome_of result ≡ remove_outcome kind table.old g keys.now values.now (length work.old) }
+    ensures content { table.new ≡ remove_leaves kind table.old g keys.now values.now (length work.old) }
     ensures work { work.new ≡ cleared work.old }
 {
+    let columns = Columns { keys, values, kind };
     let answer = remove_checked(table, g, columns, work);
     codec::clear(work);
     answer

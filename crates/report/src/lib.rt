@@ -145,7 +145,14 @@ fn print_columns(text: &mut Text<LONGEST_TEXT>, columns: Columns<'_>)
 {
     let mut table = [0u8; TABLE_BYTES];
     let mut work = [0u8; TABLE_BYTES];
-    match add::add(&mut table, 0, columns, &mut work) {
+    match add::add(
+        &mut table,
+        0,
+        columns.keys,
+        columns.values,
+        columns.kind,
+        &mut work,
+    ) {
         Ok(g) => print_table(text, SoundTable::known(&table, g)),
         Err(r) => print_refusal(text, r),
     }

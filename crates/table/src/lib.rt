@@ -10,7 +10,7 @@ ghost use Rattle.table.specs.Calls.{most_rows, column_outcome};
 ghost use Rattle.refusal.specs.Answer.{outcome_of};
 ghost use Rattle.table.specs.Steps.{split_in};
 
-use columns::Columns;
+use columns::{Columns, Kind};
 use level::SplitTotal;
 use record::Record;
 use refusal::Refusal;
@@ -23,11 +23,14 @@ pub const MOST_ROWS: u64 = 4294967295;
 pub fn check_columns(
     table: &[u8],
     g: usize,
-    columns: Columns<'_>,
+    keys: &[u8],
+    values: &[u8],
+    kind: Kind,
     work_len: usize,
 ) -> Result<(), Refusal>
-    ensures { outcome_of result ≡ column_outcome columns.entry.kind table.now g columns.entry.keys.now columns.entry.values.now work_len }
+    ensures { outcome_of result ≡ column_outcome kind table.now g keys.now values.now work_len }
 {
+    let columns = Columns { keys, values, kind };
     if !soundness::is_sound(table, g) {
         return Err(Refusal::TableNotSound);
     }

@@ -23,12 +23,12 @@ module _ (c : Else-not-is_sound) where
 long-here : (c : Else-work_len-table) → ltb c.args.work_len (length c.args.table.now) ≡ false
 long-here c = le-ltb c.args.work_len (length c.args.table.now) c.if-work_len-table.false
 
-fit-here : (c : Else-not-fit) → columns_fit c.args.columns.kind c.args.columns.keys.now c.args.columns.values.now ≡ true
+fit-here : (c : Else-not-fit) → columns_fit c.args.kind c.args.keys.now c.args.values.now ≡ true
 fit-here c = sym c.fit.ensures ∙ not-false c.fit.result (ap not c.if-not-fit.false)
 
 -- with these three passed the rows decide
 last-decides : (c : After-any_not_finite) → let a = c.args in
-    column_outcome a.columns.kind a.table.now a.g a.columns.keys.now a.columns.values.now a.work_len ≡ outcome (ground 10 c.any_not_finite.result ∷ []) tt
+    column_outcome a.kind a.table.now a.g a.keys.now a.values.now a.work_len ≡ outcome (ground 10 c.any_not_finite.result ∷ []) tt
 unfolding column_grounds
 last-decides c =
     let a = c.args in
@@ -36,7 +36,7 @@ last-decides c =
       (sym c.is_sound.ensures ∙ not-false c.is_sound.result (ap not c.if-not-is_sound.false)),
       (le-ltb c.args.work_len (length c.args.table.now) c.if-work_len-table.false),
       (sym c.fit.ensures ∙ not-false c.fit.result (ap not c.if-not-fit.false)),
-      any_bits a.columns.kind a.columns.keys.now a.columns.values.now ((sym c.fit.ensures ∙ not-false c.fit.result (ap not c.if-not-fit.false))),
+      any_bits a.kind a.keys.now a.values.now ((sym c.fit.ensures ∙ not-false c.fit.result (ap not c.if-not-fit.false))),
       ← c.any_not_finite.ensures,
     )
     refl
