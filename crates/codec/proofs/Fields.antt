@@ -1,44 +1,12 @@
--- What the library says of a number's bytes, in the words of `number_at` and `bytes`.
-use Prim.Native.Nat.{ℕ, zero, suc, ◌+◌, ◌*◌, ◌/◌, ◌%◌, ◌^◌, ◌≤◌}
-use mathlib.Core.Path.{◌≡◌, refl, sym, ap, ap₂, ◌∙◌}
-use mathlib.Core.List.{List, ◌∷◌, ◌++◌, append_assoc}
-use native.Mathlib.Nat.{pow-suc, div-one, div-div-eq-div-mul}
+-- What the library says of a number's bytes and of bytes that were moved, in the words of `number_at` and `sets`.
+use Prim.Native.Nat.{ℕ, suc, ◌+◌, ◌*◌, ◌≤◌}
+use mathlib.Core.Path.{◌≡◌, sym, ap, ◌∙◌}
+use mathlib.Core.List.{List, ◌++◌}
 use native.Mathlib.Omega.{arith}
 use lib.ListN.{length, get_or, take, drop}
 use lib.Seq.{sets, sets-eq, length-take-le, paste}
-use Rattle.std.specs.Int.{bytes_low_first, byte_at}
-use Rattle.std.proofs.lemmas.Slice.{put_mid-paste}
-use Rattle.std.proofs.lemmas.List.Edits.{paste_all}
-use borrow.Rule.Slice.PartMut.{put_mid}
-use Rattle.codec.specs.Bytes.{bytes, number_at}
-use Rattle.codec.proofs.Laws.{length-bytes, number_at_cons, number_at-none, number_at-add}
-
--- byte i of a number
-byte_is : (i n m : ℕ) → m ≡ n / 256 ^ i → byte_at i n ≡ m % 256
-byte_is zero n m e = ap (λ (x : ℕ). x % 256) (sym (e ∙ div-one n))
-byte_is (suc i) n m e = ap (λ (x : ℕ). x % 256) (sym e)
-
--- the bytes of a number from byte i on
-bytes-low : (k i n m : ℕ) → m ≡ n / 256 ^ i → bytes_low_first i k n ≡ bytes k m
-unfolding bytes
-bytes-low zero i n m e = refl
-bytes-low (suc k) i n m e =
-    let next : m / 256 ≡ n / 256 ^ suc i = ap (λ (x : ℕ). x / 256) e ∙ div-div-eq-div-mul n (256 ^ i) 256 ∙ ap (λ (x : ℕ). n / x) (sym (pow-suc 256 i)) in
-    ap₂ (λ (x : ℕ) (l : List ℕ). x ∷ l) (byte_is i n m e) (bytes-low k (suc i) n (m / 256) next)
-
--- bytes that were put over a part
-stored : (s w new : List ℕ) (a n : ℕ) → new ≡ w → length w ≡ n → a + n ≤ length s → put_mid a n s new ≡ sets s a w
-stored s w new a n e q h =
-    put_mid-paste a n s new w n e refl (sym q)
-    ∙ paste_all s a w n (sym q)
-    ∙ ap (λ (k : ℕ). take a s ++ (w ++ drop (a + k) s)) (sym q)
-    ∙ sym (append_assoc (take a s) w (drop (a + length w) s))
-    ∙ sym (sets-eq w s a (omega arith))
-
--- the bytes of a number, put over a part that is as long
-pub bytes_stored : (s new : List ℕ) (a n k x : ℕ) → new ≡ bytes_low_first 0 k x → n ≡ k → a + k ≤ length s → put_mid a n s new ≡ sets s a (bytes k x)
-bytes_stored s new a n k x e q h =
-    rw q (stored s (bytes k x) new a k (e ∙ bytes-low k 0 x x (sym (div-one x))) (length-bytes k x) h)
+use Rattle.codec.specs.Bytes.{number_at}
+use Rattle.codec.proofs.Laws.{number_at_cons, number_at-none, number_at-add}
 
 -- bytes that were moved within a buffer
 pub paste-sets : (s w : List ℕ) (a n : ℕ) → a + n ≤ length s → n ≤ length w → paste s a w n ≡ sets s a (take n w)

@@ -57,7 +57,7 @@ impl Field for u32 {
     }
 
     fn write(self, s: &mut [u8], at: usize) {
-        s[at..at + 4].copy_from_slice(&self.to_le_bytes());
+        write(s, at, 4, self as u64);
     }
 }
 
@@ -85,7 +85,7 @@ impl Field for u64 {
     }
 
     fn write(self, s: &mut [u8], at: usize) {
-        s[at..at + 8].copy_from_slice(&self.to_le_bytes());
+        write(s, at, 8, self);
     }
 }
 
@@ -118,11 +118,14 @@ pub fn move_up(s: &mut [u8], a: usize, e: usize, d: usize)
 }
 
 // The first n bytes of s in the place of d's.
+// Kept: byte by byte, since of the library's copy the compiler makes a call of memmove, a name that the archive for C does not have to ask for.
 pub fn copy(d: &mut [u8], s: &[u8], n: usize)
     requires { (n ≤ length d.old) × (n ≤ length s.now) }
     ensures { d.new ≡ take n s.now ++ drop n d.old }
 {
-    d[..n].copy_from_slice(&s[..n]);
+    for i in 0..n {
+        d[i] = s[i];
+    }
 }
 
 // Zeros over the whole length.

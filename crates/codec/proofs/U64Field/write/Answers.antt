@@ -1,9 +1,5 @@
-use mathlib.Core.Path.{◌∙◌}
-use native.Mathlib.Omega.{arith}
-use Rattle.codec.proofs.Fields.{bytes_stored}
+-- its equation is asked by itself, so that a wrong width shows
 use Rattle.codec.proofs.U64Field.write.Goals as goal
 
 pub returns : goal.returns
-returns c =
-    let a = c.args in
-    bytes_stored a.s.now _ a.at _ 8 a.self (c.copy_from_slice.ensures.after ∙ c.to_le_bytes.ensures) (omega arith) c.requires
+returns c = c.write.ensures
