@@ -1,6 +1,8 @@
 use Rattle.finish.proofs.Hundredths.{figure_too_large, figure-plus, figure-minus}
 use Rattle.finish.proofs.figure_of_size.Goals as goal
 
+-- A size that i32 has no room for
+-- is beyond the largest figure.
 pub returns-in_default : goal.returns-in_default
 returns-in_default c = let e = c.in_default.ensures in figure_too_large c.args.negative c.args.n e
 
