@@ -191,7 +191,7 @@ def folded(word):
 def functions(text):
     """The functions and methods of a file of code: name, parameters with their types and whether they are written out, and contract."""
     for found in re.finditer(r"^ *(?:pub )?(?:extern \"C\" )?fn (\w+)(?:<[^(]*>)?\(([^)]*)\)(.*?)(?:^ *\{|\{$|;$)", text, re.M | re.S):
-        named = re.findall(r"(\w\w+): (&mut |&)?([^,\n]+)", found[2])
+        named = re.findall(r"(\w\w+): (&mut |&)?(?:'\w+ )?([^,\n]+)", found[2])
         yield found[1], [(word, re.sub(r"^(?:[iu]\d+|usize)$", "a number", kind.strip()), way == "&mut ") for word, way, kind in named], found[3]
 
 

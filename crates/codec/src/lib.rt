@@ -109,7 +109,7 @@ impl Field for i64 {
 }
 
 // The bytes from a to e move up by d.
-// Kept, as copy and clear are: the library's move under the definition that the callers' proofs speak in.
+// Kept, as clear is: the library's move under the definition that the callers' proofs speak in.
 pub fn move_up(s: &mut [u8], a: usize, e: usize, d: usize)
     requires { (a ≤ e) × (e + d ≤ length s.old) }
     ensures { s.new ≡ sets s.old (a + d) (take (e - a) (drop a s.old)) }

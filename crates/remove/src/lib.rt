@@ -204,7 +204,7 @@ fn remove_in(
     requires no_overflow { any_of overflows (patch_sections columns.kind columns.keys.now columns.values.now) ≡ false }
     ensures { TakenOut table.old g (sections table.old g) (patch_sections columns.entry.kind columns.entry.keys.now columns.entry.values.now) (outcome_of result) table.new }
 {
-    match add::add_rows(work, 0, g, columns) {
+    match add::add_rows(work, 0, g, columns.keys, columns.values, columns.kind) {
         Some(n) => subtract_patch(table, g, SoundTable::known(work, n)),
         None => Err(Refusal::TooFewRows),
     }

@@ -165,11 +165,7 @@ fn print_file(text: &mut Text<LONGEST_TEXT>, file: &[u8])
 {
     match patch::read(file) {
         Ok(rows) => {
-            let columns = Columns {
-                keys: patch::keys(file),
-                values: patch::values(file),
-                kind: rows.kind,
-            };
+            let columns = Columns::new(patch::keys(file), patch::values(file), rows.kind);
             print_columns(text, columns);
         }
         Err(why) => print_refusal(text, why),
